@@ -1,0 +1,4 @@
+pub mod Word
+pub mod Memory
+pub mod Image
+pub mod Survey

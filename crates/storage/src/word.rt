@@ -1,0 +1,55 @@
+// The storage word, in the low 18 bits of a host's 32-bit number. Bits above them are ignored, and stored as zero.
+ghost use mathlib.Core.Path.{_≡_};
+ghost use Prim.Native.Nat.{_<_};
+ghost use Rattle.storage.specs.Word.{data-of, protected, parity-right, seventeen-bits, with-parity, word-of as the-word, stored as the-stored, Sound, Only-word};
+
+pub fn data_of(word: u32) -> u16
+    ensures { λ r. ⌜ r ≡ data-of word ⌝ }
+{
+    (word % 65_536) as u16
+}
+
+pub fn is_protected(word: u32) -> bool
+    ensures { λ r. ⌜ r ≡ protected word ⌝ }
+{
+    word / 65_536 % 2 == 1
+}
+
+pub fn parity_is_right(word: u32) -> bool
+    ensures { λ r. ⌜ r ≡ parity-right word ⌝ }
+{
+    (word % 262_144).count_ones() % 2 == 1
+}
+
+// Data and protect bit, without parity.
+fn seventeen(data: u16, protect: bool) -> u32
+    ensures value { λ r. ⌜ r ≡ seventeen-bits «data» protect ⌝ }
+    ensures bound { λ r. ⌜ r < 131072 ⌝ }
+{
+    u32::from(protect) * 65_536 + u32::from(data)
+}
+
+// Puts the parity bit on where the others hold an even count of ones.
+fn with_parity(bits: u32) -> u32
+    requires { ⌜ bits < 131072 ⌝ }
+    ensures { λ r. ⌜ r ≡ with-parity bits ⌝ }
+{
+    bits + (1 - bits.count_ones() % 2) * 131_072
+}
+
+// The word of these data, protected or not, with parity right.
+pub fn word_of(data: u16, protect: bool) -> u32
+    ensures value { λ r. ⌜ r ≡ the-word «data» protect ⌝ }
+    ensures sound { λ r. ⌜ Sound «data» protect r ⌝ }
+    ensures only { λ _. ⌜ Only-word ⌝ }
+{
+    with_parity(seventeen(data, protect))
+}
+
+// The word that a store of these data leaves where `old` stood.
+pub fn stored(old: u32, data: u16) -> u32
+    ensures value { λ r. ⌜ r ≡ the-stored old «data» ⌝ }
+    ensures sound { λ r. ⌜ Sound «data» (protected old) r ⌝ }
+{
+    word_of(data, is_protected(old))
+}
