@@ -1,10 +1,9 @@
 // Reads an image from standard input, and prints what it holds.
-use refusal::Refusal;
 use refusal::RefusalDisplay;
 use std::error::AnyError;
 use std::io::Read;
-use storage::report::survey_image;
 use storage::survey::Survey;
+use storage::survey::survey_image;
 
 fn print_survey(rt: &LibcRuntime, survey: &Survey) -> Result<(), AnyError> {
     let words = survey.words;
@@ -31,6 +30,7 @@ fn run(rt: &LibcRuntime) -> Result<(), AnyError> {
             return Ok(());
         }
     }
+    // The contract of `survey_image` says so already; here it is seen.
     if again == image {
         println!(rt, "encoded again: the same file")?;
     } else {

@@ -4,10 +4,12 @@ use Prim.Native.Nat.{ℕ}
 use lib.Chars.{codes}
 use Rattle.std.specs.Written.{decimal}
 use Rattle.refusal.specs.declared.Refusal.{Refusal}
-use Rattle.refusal.specs.declared.Refusal.the-variants.{Length, ImageByte}
+use Rattle.refusal.specs.declared.Refusal.the-variants.{Length, Area, Gap, ImageByte}
 
 abbrev pub number : Refusal → ℕ
 number Length = 1
+number Area = 3
+number Gap = 4
 number ImageByte = 8
 
 -- what a program prints of it

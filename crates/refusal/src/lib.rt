@@ -8,6 +8,10 @@ use std::fmt;
 pub enum Refusal {
     // a core whose length is not one of the four sizes, or an image that does not fit the core
     Length,
+    // a device's area outside 1 to 31
+    Area,
+    // a device's gap outside 1 to 255
+    Gap,
     // an image record whose first byte is above 3
     ImageByte,
 }
@@ -18,6 +22,8 @@ impl Refusal {
     {
         match self {
             Refusal::Length => 1,
+            Refusal::Area => 3,
+            Refusal::Gap => 4,
             Refusal::ImageByte => 8,
         }
     }

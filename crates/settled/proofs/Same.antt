@@ -7,7 +7,7 @@ use Rattle.std.proofs.shelf.Equals.{sameBytes-decides}
 use Rattle.std.specs.shelf.Lawful.{all-pass}
 use Rattle.std.specs.shelf.Lists.{All}
 use Rattle.std.specs.shelf.Text.{sameBytes}
-use Rattle.storage.proofs.Records.{both}
+use Rattle.std.proofs.shelf.Tests.{and-parts}
 use Rattle.settled.specs.Examples.{Example, examples, Holds, All-hold}
 
 abbrev same : Example → Bool
@@ -16,7 +16,7 @@ same e = sameBytes (e .worked-out) (e .settled)
 each : (es : List Example) → all-pass same es ≡ true → All Holds es
 each [] t = tt
 each (e ∷ es) t =
-    let p = both (same e) (all-pass same es) t in
+    let p = and-parts (same e) (all-pass same es) t in
     (sameBytes-decides (e .worked-out) (e .settled) .0 (p .0), each es (p .1))
 
 pub all-hold : All-hold

@@ -27,7 +27,7 @@ Holds e = e .worked-out ≡ e .settled
 abbrev pub All-hold : Type 0
 All-hold = All Holds examples
 
--- the settled numbers, one after the other
+-- what the definitions work out, one after the other
 abbrev pub numbers : List Example → List ℕ
 numbers [] = []
-numbers (e ∷ es) = e .settled ++ numbers es
+numbers (e ∷ es) = e .worked-out ++ numbers es

@@ -9,7 +9,7 @@ use lib.Dec.{eqb}
 use borrow.Author.Tests.{eq-eqb, eqb-true, eqb-false}
 use lib.Count.{ones, ones-cat, ones-ones}
 use Rattle.std.proofs.shelf.Ways.{tells}
-use Rattle.storage.specs.Word.{data-of, protected, protect-bit, parity-right, eighteen, seventeen-bits, with-parity, word-of, Sound, Only-word}
+use Rattle.storage.specs.Word.{data-of, is-protected, protect-bit, parity-right, eighteen, seventeen-bits, with-parity, word-of, Sound, Only-word}
 
 -- the parity bit is one more one
 pub ones-top : (x : ℕ) → x < 131072 → ones (x + 131072) ≡ ones x + 1

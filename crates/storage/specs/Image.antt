@@ -1,5 +1,5 @@
 -- An image file keeps a core: for each storage word a record of three bytes, in order of address, and nothing else.
--- A record is the tag, which is the protect bit plus twice the parity bit; the high byte of the data; the low byte.
+-- A record is the flags, which are the protect bit plus twice the parity bit; the high byte of the data; the low byte.
 use mathlib.Core.Path.{_≡_}
 use mathlib.Core.Bool.{Bool, true, false, cond, _&&_}
 use mathlib.Core.List.{List, [], _∷_, _++_, map}
@@ -10,15 +10,15 @@ use Rattle.std.specs.declared.result.Result.{Result}
 use Rattle.std.specs.declared.result.Result.the-variants.{Ok, Err}
 use Rattle.refusal.specs.declared.Refusal.{Refusal}
 use Rattle.refusal.specs.declared.Refusal.the-variants.{Length, ImageByte}
-use Rattle.storage.specs.Word.{eighteen}
+use Rattle.storage.specs.Word.{eighteen, data-of, protect-bit, parity-bit}
 use Rattle.storage.specs.Memory.{core-size}
 
 -- a record, and the word of one; parity as it stands, right or wrong
 abbrev pub record-of : ℕ → List ℕ
-record-of w = (w / 65536 % 4) ∷ ((w / 256 % 256) ∷ ((w % 256) ∷ []))
+record-of w = (protect-bit w + 2 * parity-bit w) ∷ ((data-of w / 256) ∷ ((data-of w % 256) ∷ []))
 
 abbrev pub record-word : ℕ → ℕ → ℕ → ℕ
-record-word tag high low = tag * 65536 + high * 256 + low
+record-word flags high low = flags * 65536 + high * 256 + low
 
 -- the file of these words, and the words of a file
 abbrev pub bytes-of : List ℕ → List ℕ
@@ -27,30 +27,30 @@ bytes-of (w ∷ ws) = record-of w ++ bytes-of ws
 
 abbrev pub words-of : List ℕ → List ℕ
 words-of [] = []
-words-of (tag ∷ []) = []
-words-of (tag ∷ (high ∷ [])) = []
-words-of (tag ∷ (high ∷ (low ∷ rest))) = record-word tag high low ∷ words-of rest
+words-of (flags ∷ []) = []
+words-of (flags ∷ (high ∷ [])) = []
+words-of (flags ∷ (high ∷ (low ∷ rest))) = record-word flags high low ∷ words-of rest
 
--- each record's first byte is at most 3
-abbrev pub tags-fit : List ℕ → Bool
-tags-fit [] = true
-tags-fit (tag ∷ []) = true
-tags-fit (tag ∷ (high ∷ [])) = true
-tags-fit (tag ∷ (high ∷ (low ∷ rest))) = leb tag 3 && tags-fit rest
+-- each record's flags are at most 3
+abbrev pub all-flags-fit : List ℕ → Bool
+all-flags-fit [] = true
+all-flags-fit (flags ∷ []) = true
+all-flags-fit (flags ∷ (high ∷ [])) = true
+all-flags-fit (flags ∷ (high ∷ (low ∷ rest))) = leb flags 3 && all-flags-fit rest
 
 -- a core of n words may be kept in a file of so many bytes
 abbrev pub fits : ℕ → ℕ → Bool
 fits n bytes = core-size n && eqb bytes (3 * n)
 
--- Decoding into a core of n words: refused by length first, and then by a tag.
+-- Decoding into a core of n words: refused by length, which is 1, and then by flags, which is 8.
 abbrev pub decoding : List ℕ → ℕ → Result (Unit {0}) Refusal
-decoding image n = cond (fits n (length image)) (cond (tags-fit image) (Ok tt) (Err ImageByte)) (Err Length)
+decoding image n = cond (fits n (length image)) (cond (all-flags-fit image) (Ok tt) (Err ImageByte)) (Err Length)
 
 abbrev pub after-decoding : Result (Unit {0}) Refusal → List ℕ → List ℕ → List ℕ
 after-decoding (Ok u) image core = words-of image
 after-decoding (Err e) image core = core
 
--- Encoding a core of n words into a buffer of so many bytes: refused by length.
+-- Encoding a core of n words into a buffer of so many bytes: refused by length, which is 1.
 abbrev pub encoding : ℕ → ℕ → Result (Unit {0}) Refusal
 encoding n bytes = cond (fits n bytes) (Ok tt) (Err Length)
 
@@ -61,7 +61,7 @@ after-encoding (Err e) core buffer = buffer
 -- The two round trips. A file that decoded into this core is the file that the core encodes to; and the file that a
 -- core was encoded to decodes into the same eighteen-bit words.
 abbrev pub Same-file : Result (Unit {0}) Refusal → List ℕ → List ℕ → Type 0
-Same-file r image core = r ≡ Ok tt → bytes-of core ≡ image
+Same-file r image core = r ≡ Ok tt → (encoding (length core) (length image) ≡ Ok tt) × (bytes-of core ≡ image)
 
 abbrev pub Same-words : Result (Unit {0}) Refusal → List ℕ → List ℕ → Type 0
 Same-words r core image = r ≡ Ok tt → (decoding image (length core) ≡ Ok tt) × (words-of image ≡ map eighteen core)

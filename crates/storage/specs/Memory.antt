@@ -8,20 +8,20 @@ use lib.ListN.{length, getD}
 use Rattle.std.specs.declared.option.Option.{Option}
 use Rattle.std.specs.declared.option.Option.the-variants.{Some, None}
 use Rattle.std.specs.shelf.Lists.{countBy, leading}
-use Rattle.storage.specs.Word.{protected, parity-right}
+use Rattle.storage.specs.Word.{is-protected, parity-right}
 
 -- the four sizes
 abbrev pub core-size : ℕ → Bool
 core-size n = eqb n 4096 || (eqb n 8192 || (eqb n 16384 || eqb n 32768))
 
 abbrev pub protected-count : List ℕ → ℕ
-protected-count core = countBy protected core
+protected-count core = countBy is-protected core
 
 -- how many words stand before the first of wrong parity
 abbrev pub right-before : List ℕ → ℕ
 right-before core = leading parity-right core
 
--- the first address of wrong parity, or none
+-- the address of the first word whose parity is wrong, if there is one
 abbrev pub first-wrong : List ℕ → Option ℕ
 first-wrong core = cond (ltb (right-before core) (length core)) (Some (right-before core)) None
 

@@ -16,10 +16,13 @@ data-of w = w % 65536
 abbrev pub protect-bit : ℕ → ℕ
 protect-bit w = w / 65536 % 2
 
-abbrev pub protected : ℕ → Bool
-protected w = eqb (protect-bit w) 1
+abbrev pub parity-bit : ℕ → ℕ
+parity-bit w = w / 131072 % 2
 
--- parity is right when the eighteen bits hold an odd count of ones
+abbrev pub is-protected : ℕ → Bool
+is-protected w = eqb (protect-bit w) 1
+
+-- the count of ones among all eighteen, the protect bit and the parity bit too, has to be odd
 abbrev pub parity-right : ℕ → Bool
 parity-right w = eqb (ones (eighteen w) % 2) 1
 
@@ -37,12 +40,12 @@ word-of d p = with-parity (seventeen-bits d p)
 
 -- the word after a store of these data: the old protect bit, and parity right
 abbrev pub stored : ℕ → ℕ → ℕ
-stored old d = word-of d (protected old)
+stored old d = word-of d (is-protected old)
 
 -- What a stored word is, in full. The law says more than that `stored` and `word-of` are such words: there is no other.
 pub record Sound (d : ℕ) (p : Bool) (w : ℕ) : Type 0 where
   pub data-is : data-of w ≡ d
-  pub protect-is : protected w ≡ p
+  pub protect-is : is-protected w ≡ p
   pub parity-is : parity-right w ≡ true
   pub high-is : w < 262144
 

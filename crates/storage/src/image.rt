@@ -2,7 +2,7 @@
 ghost use mathlib.Core.Path.{_≡_};
 ghost use lib.Dec.{leb};
 ghost use lib.ListN.{length};
-ghost use Rattle.storage.specs.Image.{record-word, record-of, tags-fit, fits as fits-is, decoding, after-decoding, encoding, after-encoding, Same-file, Same-words};
+ghost use Rattle.storage.specs.Image.{record-word, record-of, all-flags-fit, fits as fits-is, decoding, after-decoding, encoding, after-encoding, Same-file, Same-words};
 use crate::memory::is_core_size;
 use refusal::Refusal;
 
@@ -13,19 +13,19 @@ pub(crate) fn fits(words: usize, bytes: usize) -> bool
     is_core_size(words) && bytes % 3 == 0 && bytes / 3 == words
 }
 
-fn tag_fits(tag: u8) -> bool
-    ensures { λ r. ⌜ r ≡ leb tag 3 ⌝ }
+fn flags_fit(flags: u8) -> bool
+    ensures { λ r. ⌜ r ≡ leb flags 3 ⌝ }
 {
-    tag <= 3
+    flags <= 3
 }
 
-// Whether every record's first byte is a tag.
-fn tags_fit(image: &[u8]) -> bool
-    ensures { λ r. ⌜ r ≡ tags-fit (now (image .entry)) ⌝ }
+// Whether the first byte of every record is a protect bit and a parity bit, and no more.
+fn all_flags_fit(image: &[u8]) -> bool
+    ensures { λ r. ⌜ r ≡ all-flags-fit (now (image .entry)) ⌝ }
 {
     let mut rest = image;
-    while let [tag, _, _, more @ ..] = rest {
-        if !tag_fits(*tag) {
+    while let [flags, _high, _low, more @ ..] = rest {
+        if !flags_fit(*flags) {
             return false;
         }
         rest = more;
@@ -34,20 +34,20 @@ fn tags_fit(image: &[u8]) -> bool
 }
 
 // The word of a record.
-fn word_from(tag: u8, high: u8, low: u8) -> u32
-    ensures { λ r. ⌜ r ≡ record-word tag high low ⌝ }
+fn word_from(flags: u8, high: u8, low: u8) -> u32
+    ensures { λ r. ⌜ r ≡ record-word flags high low ⌝ }
 {
-    u32::from(tag) * 65_536 + u32::from(high) * 256 + u32::from(low)
+    u32::from(flags) * 65_536 + u32::from(high) * 256 + u32::from(low)
 }
 
 // The record of a word.
 fn record_from(word: u32) -> [u8; 3]
     ensures { λ r. ⌜ r ≡ record-of word ⌝ }
 {
-    let tag = (word / 65_536 % 4) as u8;
+    let flags = (word / 65_536 % 4) as u8;
     let high = (word / 256 % 256) as u8;
     let low = (word % 256) as u8;
-    [tag, high, low]
+    [flags, high, low]
 }
 
 // Fills the core from the image. Every test comes before the first word is written.
@@ -59,15 +59,15 @@ pub fn decode(image: &[u8], core: &mut [u32]) -> Result<(), Refusal>
     if !fits(core.len(), image.len()) {
         return Err(Refusal::Length);
     }
-    if !tags_fit(image) {
+    if !all_flags_fit(image) {
         return Err(Refusal::ImageByte);
     }
     let mut rest = image;
     for word in core.iter_mut() {
-        let [tag, high, low, more @ ..] = rest else {
+        let [flags, high, low, more @ ..] = rest else {
             unreachable()
         };
-        *word = word_from(*tag, *high, *low);
+        *word = word_from(*flags, *high, *low);
         rest = more;
     }
     Ok(())
@@ -84,8 +84,8 @@ pub fn encode(core: &[u32], image: &mut [u8]) -> Result<(), Refusal>
     }
     for (address, word) in core.iter().enumerate() {
         let at = 3 * address;
-        let [tag, high, low] = record_from(*word);
-        image[at] = tag;
+        let [flags, high, low] = record_from(*word);
+        image[at] = flags;
         image[at + 1] = high;
         image[at + 2] = low;
     }

@@ -12,6 +12,7 @@ pub fn is_core_size(words: usize) -> bool
     matches!(words, 4_096 | 8_192 | 16_384 | 32_768)
 }
 
+// How many words have the protect bit on. Any slice will do, of a core's length or not.
 pub fn count_protected(core: &[u32]) -> usize
     ensures { λ r. ⌜ r ≡ protected-count (now (core .entry)) ⌝ }
 {
@@ -24,7 +25,7 @@ pub fn count_protected(core: &[u32]) -> usize
     count
 }
 
-// The first address of wrong parity, or none.
+// Searches for wrong parity, from the lowest address up. Any slice will do, of a core's length or not.
 pub fn first_wrong_parity(core: &[u32]) -> Option<usize>
     ensures value { λ r. ⌜ r ≡ first-wrong (now (core .entry)) ⌝ }
     ensures searched { λ r. ⌜ Searched (now (core .entry)) r ⌝ }

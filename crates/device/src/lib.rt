@@ -1,0 +1,3 @@
+// What a device is: the two traits that a make implements, and what a make means.
+pub mod answer;
+pub mod interface;

@@ -1,0 +1,68 @@
+// A device that refuses everything: what a make has to write, and no more.
+ghost use mathlib.Core.Path.{refl};
+ghost use mathlib.Core.List.{[]};
+ghost use Rattle.device_demo.specs.Absent.{absent, absent-lawful};
+use device::answer::DeviceFault;
+use device::interface::Device;
+use device::interface::Make;
+
+pub struct AbsentMake;
+
+pub impl Make for AbsentMake as AbsentIsMake {
+    const KIND: u32 = 0;
+}
+
+#[derive(Drop)]
+pub struct Absent;
+
+pub impl Device for Absent as AbsentDevice {
+    type Of = AbsentMake;
+
+    ghost control = { λ _. [] };
+
+    ghost words = { λ _. [] };
+
+    ghost means = { absent };
+
+    ghost lawful = { absent-lawful };
+
+    ghost numbered = { λ _. refl };
+
+    fn kind(&self) -> u32 {
+        Self::Of::KIND
+    }
+
+    fn answers_to(&self, _area: u32) -> bool {
+        false
+    }
+
+    fn takes(&self, _area: u32, _function: u32) -> bool {
+        false
+    }
+
+    fn operating(&self) -> bool {
+        false
+    }
+
+    fn line(&self) -> bool {
+        false
+    }
+
+    fn command(&mut self, _area: u32, _function: u32, _modifier: u32) -> Result<(), DeviceFault> {
+        Err(DeviceFault::NotTaken)
+    }
+
+    fn sense(&mut self, _area: u32, _modifier: u32) -> u16 {
+        0
+    }
+
+    fn put(&mut self, _area: u32, _word: u16) {}
+
+    fn get(&mut self, _area: u32) -> u16 {
+        0
+    }
+
+    fn passed(&mut self) {}
+
+    fn reset(&mut self) {}
+}

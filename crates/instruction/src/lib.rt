@@ -1,0 +1,3 @@
+// Decoding: what the first word of an instruction says.
+pub mod decoding;
+pub mod words;

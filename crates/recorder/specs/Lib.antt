@@ -1,0 +1,2 @@
+pub mod Recorders
+pub mod Shown

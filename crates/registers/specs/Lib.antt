@@ -1,0 +1,4 @@
+pub mod Parts
+pub mod Arithmetic
+pub mod Shifts
+pub mod Branches
