@@ -14,8 +14,8 @@ use Rattle.device.specs.declared.answer.DeviceFault.{DeviceFault}
 use Rattle.device.specs.declared.answer.DeviceFault.the-variants.{NotTaken, Busy}
 use Rattle.device.specs.Meaning.{Meaning, ChannelMeaning}
 
--- Command: not taken exactly when the function is not among those of the area; else busy exactly when the device operates
--- and the function is not Control, which is 4. A refusal changes nothing.
+-- Command: first whether the function is one of the area's, or it is not taken; then, for any function but Control, which is 4,
+-- whether the device is at rest, or it is busy. Control changes only where neither stops the command.
 abbrev pub command-answer : Meaning → List ℕ → ℕ → ℕ → Result (Unit {0}) DeviceFault
 command-answer m c area function =
     cond (m .takes c area function) (cond (m .operating c && not (eqb function 4)) (Err Busy) (Ok tt)) (Err NotTaken)
@@ -53,8 +53,7 @@ abbrev pub how-many : Option ℕ → ℕ
 how-many None = 0
 how-many (Some p) = 1
 
--- Get: answers and removes one word, at a place that follows from control and area. Where control has none for the area,
--- 0 and no change.
+-- Get: the word at the place that control has for the area, which is then gone. With no such place, 0 and no change.
 abbrev pub get-place : Meaning → List ℕ → ℕ → Option ℕ
 get-place m c area = cond (m .answers c area) (m .place c area) None
 

@@ -10,7 +10,7 @@ ghost use Rattle.device.specs.Laws.{Lawful};
 use crate::answer::Asking;
 use crate::answer::DeviceFault;
 
-// A make, by its number.
+// A make, by its number. A fault record carries it: generic code reads it by the method `kind`, whose contract fixes it.
 pub trait Make {
     const KIND: u32;
 }
@@ -33,7 +33,7 @@ pub trait Device {
     // the words number what control tells
     ghost numbered: { (s : Self) → length (words s) ≡ means .left (control s) };
 
-    // the number of its make, `Self::Of::KIND`
+    // the number of its make: each make answers `Self::Of::KIND`
     fn kind(&self) -> u32
         ensures { λ r. ⌜ r ≡ means .kind ⌝ };
 
@@ -41,7 +41,7 @@ pub trait Device {
         ensures { λ r. ⌜ r ≡ means .answers (control (now (self .entry))) area ⌝ };
 
     // whether the function is among those of the area
-    fn takes(&self, area: u32, function: u32) -> bool
+    fn takes_function(&self, area: u32, function: u32) -> bool
         ensures { λ r. ⌜ r ≡ means .takes (control (now (self .entry))) area function ⌝ };
 
     fn operating(&self) -> bool
@@ -85,14 +85,17 @@ pub trait Device {
 
 // A device that a channel serves.
 pub trait ChannelDevice: Device {
+    // what it wants of its channel
     fn asks(&self) -> Asking
         ensures { λ r. ⌜ r ≡ Self·Device .means .channel .asks (Self·Device .control (now (self .entry))) ⌝ };
 
+    // takes from it the word that it asks to bring
     fn bring(&mut self) -> u16
         ensures answer { λ r. ⌜ r ≡ word-at (bring-place (Self·Device .means .channel) (Self·Device .control (now (self .entry)))) (Self·Device .words (now (self .entry))) ⌝ }
         ensures control { λ _. ⌜ Self·Device .control (now (self .exit)) ≡ bring-control (Self·Device .means .channel) (Self·Device .control (now (self .entry))) ⌝ }
         ensures words { λ _. ⌜ Self·Device .words (now (self .exit)) ≡ removed (bring-place (Self·Device .means .channel) (Self·Device .control (now (self .entry)))) (Self·Device .words (now (self .entry))) ⌝ };
 
+    // hands it the word that it asks to take
     fn take(&mut self, word: u16)
         ensures control { λ _. ⌜ Self·Device .control (now (self .exit)) ≡ take-control (Self·Device .means .channel) (Self·Device .control (now (self .entry))) word ⌝ }
         ensures words { λ _. ⌜ Self·Device .words (now (self .exit)) ≡ Self·Device .words (now (self .entry)) ⌝ };

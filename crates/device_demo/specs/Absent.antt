@@ -1,5 +1,5 @@
 -- A make that answers to no area and refuses everything. It has no words and no control. The traits ask nothing of a make beyond
--- its meaning, so this is a device like any other.
+-- its meaning, so this is a device like any other. Its meaning comes first, and then the evidence that it is lawful.
 use mathlib.Core.Path.{_≡_, refl, sym}
 use mathlib.Core.Bool.{true, false, true≢false}
 use mathlib.Core.List.{[]}
@@ -12,7 +12,7 @@ use Rattle.device.proofs.Keeping.{lawful-by, no-channel-lawful, keeps-same}
 
 abbrev pub absent : Meaning
 absent = record {
-  kind = 0;
+  kind = 9;
   left = λ c. 0;
   answers = λ c area. false;
   takes = λ c area function. false;

@@ -2,14 +2,16 @@
 ghost use mathlib.Core.Path.{refl};
 ghost use mathlib.Core.List.{[]};
 ghost use Rattle.device_demo.specs.Absent.{absent, absent-lawful};
+use device::answer::Asking;
 use device::answer::DeviceFault;
+use device::interface::ChannelDevice;
 use device::interface::Device;
 use device::interface::Make;
 
 pub struct AbsentMake;
 
 pub impl Make for AbsentMake as AbsentIsMake {
-    const KIND: u32 = 0;
+    const KIND: u32 = 9;
 }
 
 #[derive(Drop)]
@@ -36,7 +38,7 @@ pub impl Device for Absent as AbsentDevice {
         false
     }
 
-    fn takes(&self, _area: u32, _function: u32) -> bool {
+    fn takes_function(&self, _area: u32, _function: u32) -> bool {
         false
     }
 
@@ -65,4 +67,18 @@ pub impl Device for Absent as AbsentDevice {
     fn passed(&mut self) {}
 
     fn reset(&mut self) {}
+}
+
+pub impl ChannelDevice for Absent as AbsentChannel {
+    fn asks(&self) -> Asking {
+        Asking::Nothing
+    }
+
+    fn bring(&mut self) -> u16 {
+        0
+    }
+
+    fn take(&mut self, _word: u16) {}
+
+    fn finish(&mut self, _go_on: bool, _tell: bool) {}
 }

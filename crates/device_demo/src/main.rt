@@ -2,11 +2,21 @@
 mod absent;
 
 use absent::Absent;
+use absent::AbsentChannel;
 use absent::AbsentDevice;
 use device::answer::Asking;
 use device::answer::DeviceFault;
+use device::function::INITIALIZE_READ;
+use device::function::INITIALIZE_WRITE;
 use device::interface::ChannelDevice;
 use device::interface::Device;
+use pair::Pair;
+use pair::PairChannel;
+use pair::PairDevice;
+use recorder::Recorder;
+use recorder::RecorderChannel;
+use recorder::RecorderDevice;
+use refusal::RefusalDisplay;
 use scanner::Scanner;
 use scanner::ScannerChannel;
 use scanner::ScannerDevice;
@@ -15,9 +25,9 @@ use terminal::setup::Setup;
 
 const AREA: u32 = 7;
 
-const GAP: u32 = 3;
+const OTHER_AREA: u32 = 8;
 
-const START: u32 = 6;
+const GAP: u32 = 3;
 
 const READINGS: [u16; 3] = [1_200, 1_207, 1_193];
 
@@ -66,24 +76,61 @@ fn print_end(rt: &LibcRuntime, scanner: &mut Scanner<'_>) -> io::Result<()> {
     print_control(rt, scanner)
 }
 
+fn show_scanner(rt: &LibcRuntime, setup: &Setup) -> io::Result<()> {
+    let mut scanner = Scanner::make(setup, &READINGS);
+    println!(rt, "a scanner with three readings, at rest")?;
+    print_control(rt, &scanner)?;
+    print_command(rt, &mut scanner, INITIALIZE_WRITE)?;
+    print_command(rt, &mut scanner, INITIALIZE_READ)?;
+    print_command(rt, &mut scanner, INITIALIZE_READ)?;
+    for cycle in 1..9 {
+        print_cycle(rt, &mut scanner, cycle)?;
+    }
+    print_end(rt, &mut scanner)
+}
+
+// A pair in a pair: a scanner, and behind it a recorder with a device that refuses everything. All three are one device here.
+fn show_pair(rt: &LibcRuntime, setup: &Setup, other: &Setup) -> io::Result<()> {
+    let inner = Pair::make(Recorder::make(other), Absent);
+    let mut pair = Pair::make(Scanner::make(setup, &READINGS), inner);
+    let kind = pair.kind();
+    println!(
+        rt,
+        "a scanner in area {AREA} paired with a recorder in area {OTHER_AREA}, kind {kind}"
+    )?;
+    let start = answer_text(pair.command(OTHER_AREA, INITIALIZE_WRITE, 0));
+    println!(rt, "start of the recorder: {start}")?;
+    let busy = answer_text(pair.command(AREA, INITIALIZE_READ, 0));
+    println!(rt, "start of the scanner: {busy}")?;
+    pair.take(4_660);
+    let word = pair.get(AREA);
+    println!(
+        rt,
+        "the channel hands over 4660; a get in area {AREA} brings {word}"
+    )?;
+    let [area, gap, operating, wait, line, count, latest] = pair.second().first().control();
+    println!(
+        rt,
+        "    area {area} gap {gap} operating {operating} wait {wait} line {line} count {count} latest {latest}"
+    )
+}
+
 fn main(rt: LibcRuntime) -> io::Result<()> {
     let setup = Setup {
         area: AREA,
         gap: GAP,
     };
-    let mut scanner = Scanner::make(&setup, &READINGS);
-    println!(rt, "a scanner with three readings, at rest")?;
-    print_control(&rt, &scanner)?;
-    print_command(&rt, &mut scanner, 5)?;
-    print_command(&rt, &mut scanner, START)?;
-    print_command(&rt, &mut scanner, START)?;
-    for cycle in 1..9 {
-        print_cycle(&rt, &mut scanner, cycle)?;
+    let other = Setup {
+        area: OTHER_AREA,
+        gap: GAP,
+    };
+    for checked in [Scanner::check(&setup), Recorder::check(&other)] {
+        if let Err(refusal) = checked {
+            return println!(rt, "{refusal}");
+        }
     }
-    print_end(&rt, &mut scanner)?;
-    let text = answer_text(Absent.command(AREA, START, 0));
-    println!(
-        rt,
-        "the same start, of a device that refuses everything: {text}"
-    )
+    show_scanner(&rt, &setup)?;
+    show_pair(&rt, &setup, &other)?;
+    let text = answer_text(Absent.command(AREA, INITIALIZE_READ, 0));
+    println!(rt, "a start of the device that refuses everything: {text}")
 }

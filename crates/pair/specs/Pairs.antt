@@ -1,5 +1,5 @@
--- A pair of channel devices on one channel, kind 3, is again a channel device. Its words are the first's, then the second's;
--- its control is how many numbers the first's control has, that control, then the second's.
+-- Two channel devices on one channel make a channel device of kind 3. Its words are the words of one and then of the other;
+-- its control begins with the length of the first control, then come the two controls.
 use mathlib.Core.Bool.{Bool, true, false, cond, not, _||_}
 use mathlib.Core.List.{List, [], _∷_, _++_}
 use Prim.Native.Nat.{ℕ, _+_}
@@ -27,8 +27,8 @@ behind n (Some p) = Some (n + p)
 abbrev pub calls : Bool → (List ℕ → List ℕ) → (List ℕ → List ℕ) → List ℕ → List ℕ
 calls to-first f g c = cond to-first (joined (f (first-of c)) (second-of c)) (joined (first-of c) (g (second-of c)))
 
--- Commands that are not refused, senses, puts and gets go to the first that answers to the area; asks, bring, take and finish
--- go to the first that operates, or to the first if none does.
+-- Which of the two is called. A call that names an area is made to the first where it answers to the area, and else to the second;
+-- the channel's calls are made to the first, unless it rests while the second operates.
 abbrev pub by-area : Meaning → List ℕ → ℕ → Bool
 by-area a c area = a .answers (first-of c) area
 
@@ -44,8 +44,8 @@ pair-channel a b = record {
   finished = λ c go-on tell. calls (by-work a b c) (λ x. a .channel .finished x go-on tell) (λ y. b .channel .finished y go-on tell) c;
 }
 
--- Operating when either does; its line is either line; passed and reset go to both. Not taken is by the functions of the first
--- of the two that answers to the area.
+-- Either of the two makes it operate, and raises its line; both are told of a cycle, and both are reset. A function is taken if the
+-- one that the area names takes it.
 abbrev pub pair : Meaning → Meaning → Meaning
 pair a b = record {
   kind = 3;

@@ -1,16 +1,18 @@
 // Two channel devices on one channel, which are one channel device again. So pairs of pairs work.
 ghost use mathlib.Core.Path.{_≡_};
-ghost use mathlib.Core.Bool.{not, _||_};
 ghost use mathlib.Core.List.{_++_};
 ghost use Rattle.std.specs.declared.result.Result.the-variants.{Ok};
-ghost use Rattle.pair.specs.Pairs.{pair, joined, first-of, second-of};
+ghost use Rattle.pair.specs.Pairs.{pair, joined};
 ghost use Rattle.pair.specs.Shown.{pair-lawful, pair-numbered};
 use device::answer::Asking;
 use device::answer::DeviceFault;
+use device::function::CONTROL;
 use device::interface::ChannelDevice;
 use device::interface::Device;
 use device::interface::Make;
 use refusal::Refusal;
+
+mod routing;
 
 pub struct PairMake;
 
@@ -37,24 +39,6 @@ impl<A: ChannelDevice, B: ChannelDevice> Pair<A, B> {
         ensures second { λ r. ⌜ r .second ≡ second ⌝ }
     {
         Pair { first, second }
-    }
-
-    // Whether a call for this area goes to the first: it does where the first answers to the area.
-    fn area_to_first(&self, area: u32) -> bool
-        ensures value { λ r. ⌜ r ≡ A·Device .means .answers (A·Device .control (now (self .entry) .first)) area ⌝ }
-        ensures first { λ _. ⌜ first-of (joined (A·Device .control (now (self .entry) .first)) (B·Device .control (now (self .entry) .second))) ≡ A·Device .control (now (self .entry) .first) ⌝ }
-        ensures second { λ _. ⌜ second-of (joined (A·Device .control (now (self .entry) .first)) (B·Device .control (now (self .entry) .second))) ≡ B·Device .control (now (self .entry) .second) ⌝ }
-    {
-        self.first.answers_to(area)
-    }
-
-    // Whether the channel's calls go to the first: they do where the first operates, or neither does.
-    fn work_to_first(&self) -> bool
-        ensures value { λ r. ⌜ r ≡ (A·Device .means .operating (A·Device .control (now (self .entry) .first)) || not (B·Device .means .operating (B·Device .control (now (self .entry) .second)))) ⌝ }
-        ensures first { λ _. ⌜ first-of (joined (A·Device .control (now (self .entry) .first)) (B·Device .control (now (self .entry) .second))) ≡ A·Device .control (now (self .entry) .first) ⌝ }
-        ensures second { λ _. ⌜ second-of (joined (A·Device .control (now (self .entry) .first)) (B·Device .control (now (self .entry) .second))) ≡ B·Device .control (now (self .entry) .second) ⌝ }
-    {
-        self.first.operating() || !self.second.operating()
     }
 
     pub fn first(&self) -> &A
@@ -91,11 +75,11 @@ pub impl<A: ChannelDevice, B: ChannelDevice> Device for Pair<A, B> as PairDevice
         self.first.answers_to(area) || self.second.answers_to(area)
     }
 
-    fn takes(&self, area: u32, function: u32) -> bool {
+    fn takes_function(&self, area: u32, function: u32) -> bool {
         if self.area_to_first(area) {
-            self.first.takes(area, function)
+            self.first.takes_function(area, function)
         } else {
-            self.second.takes(area, function)
+            self.second.takes_function(area, function)
         }
     }
 
@@ -108,10 +92,10 @@ pub impl<A: ChannelDevice, B: ChannelDevice> Device for Pair<A, B> as PairDevice
     }
 
     fn command(&mut self, area: u32, function: u32, modifier: u32) -> Result<(), DeviceFault> {
-        if !self.takes(area, function) {
+        if !self.takes_function(area, function) {
             return Err(DeviceFault::NotTaken);
         }
-        if self.operating() && function != 4 {
+        if self.operating() && function != CONTROL {
             return Err(DeviceFault::Busy);
         }
         if self.area_to_first(area) {

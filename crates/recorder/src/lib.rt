@@ -8,16 +8,21 @@ ghost use Rattle.std.specs.declared.result.Result.the-variants.{Err};
 ghost use Rattle.device.specs.Laws.{Answers-none};
 ghost use Rattle.terminal.specs.Setups.{checked};
 ghost use Rattle.terminal.specs.Terminals.{made-terminal};
-ghost use Rattle.recorder.specs.Recorders.{recorder, recorder-control, count-of, latest-of};
+ghost use Rattle.recorder.specs.Recorders.{recorder, recorder-control};
 ghost use Rattle.recorder.specs.Shown.{recorder-lawful};
 use device::answer::Asking;
 use device::answer::DeviceFault;
+use device::function::CONTROL;
+use device::function::INITIALIZE_WRITE;
+use device::function::WRITE;
 use device::interface::ChannelDevice;
 use device::interface::Device;
 use device::interface::Make;
 use refusal::Refusal;
 use terminal::setup::Setup;
 use terminal::state::Terminal;
+
+mod questions;
 
 pub struct RecorderMake;
 
@@ -52,20 +57,6 @@ impl Recorder {
         }
     }
 
-    // How many words were handed to it, by put and by take; wraps at 32 bits.
-    pub fn count(&self) -> u32
-        ensures { λ r. ⌜ r ≡ count-of (recorder-control (now (self .entry) .terminal) (now (self .entry) .count) (now (self .entry) .latest)) ⌝ }
-    {
-        self.count
-    }
-
-    // The latest word that was handed to it; 0 before the first.
-    pub fn latest(&self) -> u16
-        ensures { λ r. ⌜ r ≡ latest-of (recorder-control (now (self .entry) .terminal) (now (self .entry) .count) (now (self .entry) .latest)) ⌝ }
-    {
-        self.latest
-    }
-
     // Its control, number by number: area, gap, operating, wait, line, count, latest.
     pub fn control(&self) -> [usize; 7]
         ensures { λ r. ⌜ r ≡ recorder-control (now (self .entry) .terminal) (now (self .entry) .count) (now (self .entry) .latest) ⌝ }
@@ -77,8 +68,8 @@ impl Recorder {
             operating,
             wait,
             line,
-            self.count as usize,
-            usize::from(self.latest),
+            self.count() as usize,
+            usize::from(self.latest()),
         ]
     }
 
@@ -113,8 +104,8 @@ pub impl Device for Recorder as RecorderDevice {
         self.terminal.answers_to(area)
     }
 
-    fn takes(&self, area: u32, function: u32) -> bool {
-        self.answers_to(area) && matches!(function, 1 | 4 | 5)
+    fn takes_function(&self, area: u32, function: u32) -> bool {
+        self.answers_to(area) && matches!(function, WRITE | CONTROL | INITIALIZE_WRITE)
     }
 
     fn operating(&self) -> bool {
@@ -126,10 +117,10 @@ pub impl Device for Recorder as RecorderDevice {
     }
 
     fn command(&mut self, area: u32, function: u32, _modifier: u32) -> Result<(), DeviceFault> {
-        if !self.takes(area, function) {
+        if !self.takes_function(area, function) {
             return Err(DeviceFault::NotTaken);
         }
-        self.terminal.command(5, function)
+        self.terminal.command(INITIALIZE_WRITE, function)
     }
 
     fn sense(&mut self, area: u32, modifier: u32) -> u16 {

@@ -1,2 +1,4 @@
+pub mod Division
 pub mod Products
+pub mod Signs
 pub mod Steps

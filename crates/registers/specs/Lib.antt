@@ -2,3 +2,4 @@ pub mod Parts
 pub mod Arithmetic
 pub mod Shifts
 pub mod Branches
+pub mod Laws

@@ -1,13 +1,13 @@
 // Loading, storing and arithmetic.
 ghost use mathlib.Core.Path.{_≡_};
-ghost use mathlib.Core.Bool.{not};
+ghost use mathlib.Core.Bool.{not, _||_};
 ghost use Prim.Native.Nat.{_+_, _-_, _*_, _%_, _<_};
 ghost use lib.Dec.{ltb, leb};
 ghost use lib.IntN.{pos, _+ℤ_, _-ℤ_, _*ℤ_};
 ghost use lib.Signed.{mag, quotZ, remZ};
 ghost use mir.Syntax.{w16, w32};
 ghost use mir.Val.{ofZ};
-ghost use Rattle.registers.specs.Parts.{with-a, both as the-both, with-both, index as the-index, with-index};
+ghost use Rattle.registers.specs.Parts.{with-a, both as the-both, with-both, with-flags, index as the-index, with-index};
 ghost use Rattle.registers.specs.Arithmetic.{signed, signed-both, outside, outside-both, added, subtracted, added-both, subtracted-both, comparison, compared, compared-both, multiplied, quotient as the-quotient, divided, anded, ored, xored};
 use crate::state::Comparison;
 use crate::state::Registers;
@@ -94,6 +94,24 @@ fn compare_wide(x: i64, y: i64) -> Comparison
 }
 
 // The sum, the carry out of the highest bit, and whether the signed sum leaves the range.
+fn sum_word(x: u16, y: u16) -> (u16, bool, bool)
+    ensures { λ r. ⌜ r ≡ ((x + y) % 65536, leb 65536 (x + y), outside (signed x +ℤ signed y)) ⌝ }
+{
+    let (sum, carry) = x.overflowing_add(y);
+    let (_, overflow) = x.cast_signed().overflowing_add(y.cast_signed());
+    (sum, carry, overflow)
+}
+
+// The difference, the borrow, and whether the signed difference leaves the range.
+fn difference_word(x: u16, y: u16) -> (u16, bool, bool)
+    ensures { λ r. ⌜ r ≡ ((x + (65536 - y)) % 65536, ltb x y, outside (signed x -ℤ signed y)) ⌝ }
+{
+    let (difference, borrow) = x.overflowing_sub(y);
+    let (_, overflow) = x.cast_signed().overflowing_sub(y.cast_signed());
+    (difference, borrow, overflow)
+}
+
+// The same of two doubles.
 fn sum_double(x: u32, y: u32) -> (u32, bool, bool)
     ensures { λ r. ⌜ r ≡ ((x + y) % 4294967296, leb 4294967296 (x + y), outside-both (signed-both x +ℤ signed-both y)) ⌝ }
 {
@@ -102,7 +120,6 @@ fn sum_double(x: u32, y: u32) -> (u32, bool, bool)
     (sum, carry, overflow)
 }
 
-// The difference, the borrow, and whether the signed difference leaves the range.
 fn difference_double(x: u32, y: u32) -> (u32, bool, bool)
     ensures { λ r. ⌜ r ≡ ((x + (4294967296 - y)) % 4294967296, ltb x y, outside-both (signed-both x -ℤ signed-both y)) ⌝ }
 {
@@ -124,6 +141,14 @@ impl Registers {
     {
         self.a = (n / 65_536) as u16;
         self.q = (n % 65_536) as u16;
+    }
+
+    // Carry changes with each sum and difference; Overflow goes on, and never off.
+    fn indicate(&mut self, carry: bool, overflow: bool)
+        ensures { λ _. ⌜ now (self .exit) ≡ with-flags carry (now (self .entry) .overflow || overflow) (now (self .entry)) ⌝ }
+    {
+        self.carry = carry;
+        self.overflow = self.overflow || overflow;
     }
 
     pub fn index(&self, x: Index) -> u16
@@ -166,24 +191,18 @@ impl Registers {
     pub fn add(&mut self, word: u16)
         ensures { λ _. ⌜ now (self .exit) ≡ added word (now (self .entry)) ⌝ }
     {
-        let a = self.a;
-        let (sum, carry) = a.overflowing_add(word);
-        let (_, overflow) = a.cast_signed().overflowing_add(word.cast_signed());
+        let (sum, carry, overflow) = sum_word(self.a, word);
         self.a = sum;
-        self.carry = carry;
-        self.overflow = self.overflow || overflow;
+        self.indicate(carry, overflow);
     }
 
     // S
     pub fn subtract(&mut self, word: u16)
         ensures { λ _. ⌜ now (self .exit) ≡ subtracted word (now (self .entry)) ⌝ }
     {
-        let a = self.a;
-        let (difference, borrow) = a.overflowing_sub(word);
-        let (_, overflow) = a.cast_signed().overflowing_sub(word.cast_signed());
+        let (difference, borrow, overflow) = difference_word(self.a, word);
         self.a = difference;
-        self.carry = borrow;
-        self.overflow = self.overflow || overflow;
+        self.indicate(borrow, overflow);
     }
 
     // AD
@@ -192,8 +211,7 @@ impl Registers {
     {
         let (sum, carry, overflow) = sum_double(self.both(), double);
         self.set_both(sum);
-        self.carry = carry;
-        self.overflow = self.overflow || overflow;
+        self.indicate(carry, overflow);
     }
 
     // SD
@@ -202,8 +220,7 @@ impl Registers {
     {
         let (difference, borrow, overflow) = difference_double(self.both(), double);
         self.set_both(difference);
-        self.carry = borrow;
-        self.overflow = self.overflow || overflow;
+        self.indicate(borrow, overflow);
     }
 
     // CMP

@@ -12,6 +12,9 @@ ghost use Rattle.terminal.specs.Terminals.{made-terminal};
 ghost use Rattle.scanner.specs.Scanners.{scanner, scanner-control, first-place};
 use device::answer::Asking;
 use device::answer::DeviceFault;
+use device::function::CONTROL;
+use device::function::INITIALIZE_READ;
+use device::function::READ;
 use device::interface::ChannelDevice;
 use device::interface::Device;
 use device::interface::Make;
@@ -95,8 +98,8 @@ pub impl Device for Scanner<'_> as ScannerDevice {
         self.terminal.answers_to(area)
     }
 
-    fn takes(&self, area: u32, function: u32) -> bool {
-        self.answers_to(area) && matches!(function, 2 | 4 | 6)
+    fn takes_function(&self, area: u32, function: u32) -> bool {
+        self.answers_to(area) && matches!(function, READ | CONTROL | INITIALIZE_READ)
     }
 
     fn operating(&self) -> bool {
@@ -108,10 +111,10 @@ pub impl Device for Scanner<'_> as ScannerDevice {
     }
 
     fn command(&mut self, area: u32, function: u32, _modifier: u32) -> Result<(), DeviceFault> {
-        if !self.takes(area, function) {
+        if !self.takes_function(area, function) {
             return Err(DeviceFault::NotTaken);
         }
-        self.terminal.command(6, function)
+        self.terminal.command(INITIALIZE_READ, function)
     }
 
     fn sense(&mut self, area: u32, modifier: u32) -> u16 {

@@ -1,7 +1,12 @@
 // The settled examples, as theorems about the definitions and as what the code answers.
 ghost use mathlib.Core.Path.{_≡_};
+ghost use mathlib.Core.List.{_++_};
 ghost use lib.ListN.{length};
-ghost use Rattle.settled.specs.Examples.{All-hold, examples, word-examples, numbers};
+ghost use Rattle.settled.specs.Examples.{All-hold, examples, word-examples, sum-examples, division-examples, shift-examples, numbers, holding as the-registers, seen as the-seen, count-a};
+use instruction::words::Conditions;
+use instruction::words::Fields;
+use instruction::words::Index;
+use registers::state::Registers;
 use storage::word::word_of;
 
 // How many examples there are; each of them holds of the definitions.
@@ -9,7 +14,7 @@ pub fn examples_that_hold() -> usize
     ensures hold { λ _. ⌜ All-hold ⌝ }
     ensures count { λ r. ⌜ r ≡ length examples ⌝ }
 {
-    3
+    24
 }
 
 // What the code makes of the examples on storage words.
@@ -17,4 +22,74 @@ pub fn settled_words() -> [u32; 3]
     ensures { λ r. ⌜ r ≡ numbers word-examples ⌝ }
 {
     [word_of(1, false), word_of(1, true), word_of(0, false)]
+}
+
+fn holding(a: u16, q: u16, x1: u16) -> Registers
+    ensures { λ r. ⌜ r ≡ the-registers a q x1 ⌝ }
+{
+    Registers {
+        i: 0,
+        a,
+        q,
+        x1,
+        x2: 0,
+        x3: 0,
+        carry: false,
+        overflow: false,
+    }
+}
+
+// What the code makes of the examples on sums.
+pub fn settled_sums() -> (Registers, Registers)
+    ensures { λ r. ⌜ the-seen (r .0) ++ the-seen (r .1) ≡ numbers sum-examples ⌝ }
+{
+    let mut first = holding(32_767, 0, 0);
+    let mut second = holding(65_535, 0, 0);
+    first.add(1);
+    second.add(1);
+    (first, second)
+}
+
+// What the code makes of the examples on quotients.
+pub fn settled_quotients() -> (Registers, Registers)
+    ensures { λ r. ⌜ the-seen (r .0) ++ the-seen (r .1) ≡ numbers division-examples ⌝ }
+{
+    let mut first = holding(65_535, 65_529, 0);
+    let mut second = holding(0, 32_768, 0);
+    first.divide(2);
+    second.divide(1);
+    (first, second)
+}
+
+// Shift left and count A, by index register 1.
+fn counting() -> Fields
+    ensures { λ r. ⌜ r ≡ count-a ⌝ }
+{
+    Fields {
+        long: false,
+        tag: Some(Index::One),
+        displacement: 64,
+        indirect: false,
+        branch_out: true,
+        conditions: Conditions {
+            zero: false,
+            minus: false,
+            plus: false,
+            even: false,
+            carry_off: false,
+            overflow_off: false,
+        },
+        count: 0,
+    }
+}
+
+// What the code makes of the examples on shift and count.
+pub fn settled_shifts() -> (Registers, Registers)
+    ensures { λ r. ⌜ the-seen (r .0) ++ the-seen (r .1) ≡ numbers shift-examples ⌝ }
+{
+    let mut first = holding(4_096, 0, 325);
+    let mut second = holding(0, 0, 325);
+    first.shift_left(&counting());
+    second.shift_left(&counting());
+    (first, second)
 }

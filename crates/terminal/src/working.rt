@@ -12,6 +12,7 @@ ghost use Rattle.terminal.specs.Terminals.{is-own, status as status-is, made-t
 use crate::setup::Setup;
 use crate::state::Terminal;
 use device::answer::DeviceFault;
+use device::function::CONTROL;
 use refusal::Refusal;
 
 fn area_fits(area: u32) -> bool
@@ -35,6 +36,19 @@ impl Setup {
     }
 }
 
+// Not operating, no wait, line off.
+fn at_rest(area: u32, gap: u32) -> Terminal
+    ensures { λ r. ⌜ r ≡ record { area = area; gap = gap; operating = false; wait = 0; line = false } ⌝ }
+{
+    Terminal {
+        area,
+        gap,
+        operating: false,
+        wait: 0,
+        line: false,
+    }
+}
+
 impl Terminal {
     // At rest. Over what the check refuses it answers to no area.
     pub fn new(setup: &Setup) -> Terminal
@@ -44,13 +58,7 @@ impl Terminal {
             Ok(()) => setup.area,
             Err(_) => 0,
         };
-        Terminal {
-            area,
-            gap: setup.gap,
-            operating: false,
-            wait: 0,
-            line: false,
-        }
+        at_rest(area, setup.gap)
     }
 
     // The five numbers of control.
@@ -78,13 +86,13 @@ impl Terminal {
         ensures answer { λ r. ⌜ r ≡ cond (now (self .entry) .operating && not (eqb function 4)) (Err Busy) (Ok tt) ⌝ }
         ensures after { λ r. ⌜ ((rest : List ℕ) → in-front (now (self .exit)) rest ≡ when-accepted r (obeyed start (in-front (now (self .entry)) rest) function) (in-front (now (self .entry)) rest)) ⌝ }
     {
-        if self.operating && function != 4 {
+        if self.operating && function != CONTROL {
             return Err(DeviceFault::Busy);
         }
         if function == start {
             self.operating = true;
             self.wait = 0;
-        } else if function == 4 {
+        } else if function == CONTROL {
             self.operating = false;
         }
         Ok(())
@@ -121,9 +129,7 @@ impl Terminal {
     pub fn reset(&mut self)
         ensures { λ _. ⌜ now (self .exit) ≡ turned (now (self .entry)) false 0 false ⌝ }
     {
-        self.operating = false;
-        self.wait = 0;
-        self.line = false;
+        *self = at_rest(self.area, self.gap);
     }
 
     // Operating, and no wait.

@@ -1,0 +1,20 @@
+-- The choice of a requester: the first that stands behind a given rank, in the order of the list.
+use mathlib.Core.Bool.{Bool, true, false, cond, _&&_}
+use mathlib.Core.List.{List, [], _∷_}
+use Prim.Native.Nat.{ℕ, _+_}
+use lib.Dec.{ltb}
+use Rattle.std.specs.declared.option.Option.{Option}
+use Rattle.std.specs.declared.option.Option.the-variants.{Some, None}
+
+-- every rank lies behind none; behind a rank lie those that are greater
+abbrev pub behind : Option ℕ → ℕ → Bool
+behind None rank = true
+behind (Some b) rank = ltb b rank
+
+-- the place, counted from n, of the first that passes
+abbrev pub first-from : {R : Type 0} → (R → Bool) → ℕ → List R → Option ℕ
+first-from passes n [] = None
+first-from passes n (x ∷ xs) = cond (passes x) (Some n) (first-from passes (n + 1) xs)
+
+abbrev pub first-behind : {R : Type 0} → (R → ℕ) → (R → Bool) → Option ℕ → List R → Option ℕ
+first-behind rank wish b xs = first-from (λ x. behind b (rank x) && wish x) 0 xs

@@ -1,0 +1,5 @@
+// Interrupt levels, and the choice of a requester.
+pub mod choice;
+pub mod interrupts;
+pub mod points;
+pub mod state;

@@ -1,0 +1,11 @@
+// The signed rules, as a theorem about the definitions that the methods' contracts cite.
+ghost use mathlib.Core.Path.{_≡_};
+ghost use Rattle.registers.specs.Laws.{Signed-rules};
+
+// How many signed rules there are; all of them stand.
+pub fn signed_rules() -> u32
+    ensures stand { λ _. ⌜ Signed-rules ⌝ }
+    ensures count { λ r. ⌜ r ≡ 7 ⌝ }
+{
+    7
+}

@@ -1,0 +1,30 @@
+// What went wrong, and whose doing it was.
+use device::answer::DeviceFault;
+
+#[derive(Clone, Copy)]
+pub enum Cause {
+    Parity,
+    Protect,
+    Operation,
+    Busy,
+    NotTaken,
+    NoDevice,
+}
+
+// What a channel met: a command that its device refused, or a check in one of its cycles.
+#[derive(Clone, Copy)]
+pub enum ChannelFault {
+    Refused(DeviceFault),
+    WrongParity,
+    Protected,
+}
+
+#[derive(Clone, Copy)]
+pub struct Fault {
+    pub cause: Cause,
+    pub address: u16,
+    // 0 the program, 1 to 4 a device
+    pub by: u32,
+    // the device's kind number, 0 for the program
+    pub kind: u32,
+}
