@@ -1,3 +1,4 @@
 pub mod Choice
 pub mod Standing
 pub mod Interrupts
+pub mod Laws

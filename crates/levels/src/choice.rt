@@ -2,7 +2,7 @@
 ghost use mathlib.Core.Path.{_≡_};
 ghost use mathlib.Core.Bool.{Bool, _&&_};
 ghost use Prim.Native.Nat.{ℕ};
-ghost use Rattle.levels.specs.Choice.{behind as lies-behind, first-behind};
+ghost use Rattle.levels.specs.Choice.{behind as lies-behind, first-behind, Chosen};
 use crate::state::LevelWish;
 
 pub trait Requester {
@@ -29,7 +29,8 @@ fn stands_behind<R: Requester>(requester: &R, behind: Option<usize>) -> bool
 
 // The place in the list of the first requester that wishes and whose rank is behind the given one, or none.
 pub fn first_behind<R: Requester>(list: &[R], behind: Option<usize>) -> Option<usize>
-    ensures { λ r. ⌜ r ≡ first-behind (R·Requester .place) (R·Requester .wish) behind (now (list .entry)) ⌝ }
+    ensures value { λ r. ⌜ r ≡ first-behind (R·Requester .place) (R·Requester .wish) behind (now (list .entry)) ⌝ }
+    ensures chosen { λ r. ⌜ Chosen (λ x. lies-behind behind (R·Requester .place x) && R·Requester .wish x) (now (list .entry)) r ⌝ }
 {
     for (at, requester) in list.iter().enumerate() {
         if stands_behind(requester, behind) {

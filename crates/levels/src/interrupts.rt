@@ -43,7 +43,13 @@ impl Masks {
     }
 }
 
-// The wish of a level above which, itself included, nothing is in service, or something is.
+// Whether nothing is in service from the highest level down to this one, where nothing above is.
+fn still_free(free: bool, serving: bool) -> bool
+    ensures { λ r. ⌜ r ≡ (free && not serving) ⌝ }
+{
+    free && !serving
+}
+
 fn level_wish(masks: &Masks, free: bool, level: usize, word: u16) -> LevelWish
     ensures { λ r. ⌜ r ≡ record { level = level; wish = free && (not (is-masked (now (masks .entry)) level) && not (eqb word 0)) } ⌝ }
 {
@@ -63,7 +69,7 @@ impl Service {
         }; 24];
         let mut free = !self.internal;
         for level in 0..LEVELS {
-            free &= !self.levels[level];
+            free = still_free(free, self.levels[level]);
             wishes[level] = level_wish(masks, free, level, words[level]);
         }
         wishes

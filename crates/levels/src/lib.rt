@@ -2,4 +2,5 @@
 pub mod choice;
 pub mod interrupts;
 pub mod points;
+pub mod rules;
 pub mod state;

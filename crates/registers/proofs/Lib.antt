@@ -1,4 +1,5 @@
 pub mod Division
+pub mod Closed
 pub mod Products
 pub mod Signs
 pub mod Steps

@@ -3,3 +3,4 @@ pub mod Arithmetic
 pub mod Shifts
 pub mod Branches
 pub mod Laws
+pub mod ShiftLaws

@@ -5,6 +5,10 @@ use Rattle.instruction.specs.declared.words.Index.{Index}
 use Rattle.instruction.specs.declared.words.Index.the-variants.{One, Two, Three}
 use Rattle.registers.specs.declared.state.Registers.{Registers}
 
+-- I is a register of sixteen bits here; the layer that knows the core's size keeps it below that size
+abbrev pub with-i : ℕ → Registers → Registers
+with-i v r = record { i = v; a = r .a; q = r .q; x1 = r .x1; x2 = r .x2; x3 = r .x3; carry = r .carry; overflow = r .overflow }
+
 abbrev pub with-a : ℕ → Registers → Registers
 with-a v r = record { i = r .i; a = v; q = r .q; x1 = r .x1; x2 = r .x2; x3 = r .x3; carry = r .carry; overflow = r .overflow }
 

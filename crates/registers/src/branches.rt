@@ -1,7 +1,7 @@
 // Conditions, index registers and status.
 ghost use mathlib.Core.Path.{_≡_};
-ghost use Rattle.registers.specs.Parts.{index as the-index};
-ghost use Rattle.registers.specs.Branches.{acc-holds, holds, tested, modified as the-modified, skips, index-modified, status-loaded, status-word, status-stored};
+ghost use Rattle.registers.specs.Parts.{index as the-index, with-i};
+ghost use Rattle.registers.specs.Branches.{acc-holds, holds, tested, modified as the-modified, skips, i-modified, index-modified, status-loaded, status-word, status-stored};
 use crate::state::Registers;
 use instruction::words::Conditions;
 use instruction::words::Index;
@@ -18,10 +18,12 @@ pub fn modify(old: u16, by: u16) -> Modified
     ensures { λ r. ⌜ r ≡ record { word = the-modified old by; skip = skips old by } ⌝ }
 {
     let word = old.wrapping_add(by);
-    let turned = if old >= 32_768 {
-        word < 32_768
+    let was_negative = old.cast_signed() < 0;
+    let is_negative = word.cast_signed() < 0;
+    let turned = if was_negative {
+        !is_negative
     } else {
-        word >= 32_768
+        is_negative
     };
     Modified {
         word,
@@ -33,8 +35,8 @@ fn accumulator_holds(a: u16, conditions: &Conditions) -> bool
     ensures { λ r. ⌜ r ≡ acc-holds (now (conditions .entry)) a ⌝ }
 {
     (conditions.zero && a == 0)
-        || (conditions.minus && a >= 32_768)
-        || (conditions.plus && 0 < a && a < 32_768)
+        || (conditions.minus && a.cast_signed() < 0)
+        || (conditions.plus && a.cast_signed() > 0)
         || (conditions.even && a % 2 == 0)
 }
 
@@ -59,6 +61,20 @@ impl Registers {
         let modified = modify(self.index(x), by);
         self.load_index(x, modified.word);
         modified.skip
+    }
+
+    // LDX, with no tag.
+    pub fn load_i(&mut self, value: u16)
+        ensures { λ _. ⌜ now (self .exit) ≡ with-i value (now (self .entry)) ⌝ }
+    {
+        self.i = value;
+    }
+
+    // MDX, with no tag, in the short form.
+    pub fn modify_i(&mut self, by: u16)
+        ensures { λ _. ⌜ now (self .exit) ≡ i-modified by (now (self .entry)) ⌝ }
+    {
+        self.i = self.i.wrapping_add(by);
     }
 
     // LDS, by the instruction's own word.

@@ -1,11 +1,20 @@
 // The signed rules, as a theorem about the definitions that the methods' contracts cite.
 ghost use mathlib.Core.Path.{_≡_};
 ghost use Rattle.registers.specs.Laws.{Signed-rules};
+ghost use Rattle.registers.specs.ShiftLaws.{Shift-rules};
 
 // How many signed rules there are; all of them stand.
 pub fn signed_rules() -> u32
     ensures stand { λ _. ⌜ Signed-rules ⌝ }
-    ensures count { λ r. ⌜ r ≡ 7 ⌝ }
+    ensures count { λ r. ⌜ r ≡ 10 ⌝ }
 {
-    7
+    10
+}
+
+// How many rules of shifts there are; all of them stand.
+pub fn shift_rules() -> u32
+    ensures stand { λ _. ⌜ Shift-rules ⌝ }
+    ensures count { λ r. ⌜ r ≡ 9 ⌝ }
+{
+    9
 }

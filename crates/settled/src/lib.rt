@@ -1,8 +1,9 @@
 // The settled examples, as theorems about the definitions and as what the code answers.
 ghost use mathlib.Core.Path.{_≡_};
-ghost use mathlib.Core.List.{_++_};
+ghost use mathlib.Core.List.{_++_, map};
 ghost use lib.ListN.{length};
-ghost use Rattle.settled.specs.Examples.{All-hold, examples, word-examples, sum-examples, division-examples, shift-examples, numbers, holding as the-registers, seen as the-seen, count-a};
+ghost use Rattle.settled.specs.Examples.{All-hold, examples, word-examples, sum-examples, division-examples, shift-examples, counting-examples, skips-at, bit as the-bit, numbers, holding as the-registers, seen as the-seen, count-a};
+ghost use Rattle.registers.specs.Branches.{holds};
 use instruction::words::Conditions;
 use instruction::words::Fields;
 use instruction::words::Index;
@@ -92,4 +93,46 @@ pub fn settled_shifts() -> (Registers, Registers)
     first.shift_left(&counting());
     second.shift_left(&counting());
     (first, second)
+}
+
+// What the code makes of the manual's examples on shift and count.
+pub fn settled_counts() -> (Registers, Registers, Registers, Registers)
+    ensures { λ r. ⌜ the-seen (r .0) ++ (the-seen (r .1) ++ (the-seen (r .2) ++ the-seen (r .3))) ≡ numbers counting-examples ⌝ }
+{
+    let mut three = holding(2_048, 0, 3);
+    let mut four = holding(2_048, 0, 4);
+    let mut five = holding(2_048, 0, 5);
+    let mut six = holding(2_048, 0, 6);
+    three.shift_left(&counting());
+    four.shift_left(&counting());
+    five.shift_left(&counting());
+    six.shift_left(&counting());
+    (three, four, five, six)
+}
+
+fn skips(a: u16, conditions: &Conditions) -> bool
+    ensures { λ r. ⌜ r ≡ holds (now (conditions .entry)) (the-registers a 0 0) ⌝ }
+{
+    holding(a, 0, 0).test(conditions)
+}
+
+// What the code makes of a row of the manual's table of conditions, at 0, 1, 2, -1 and -2.
+pub fn settled_skips(zero: bool, minus: bool, plus: bool, even: bool) -> [bool; 5]
+    ensures { λ r. ⌜ map the-bit r ≡ skips-at zero minus plus even ⌝ }
+{
+    let conditions = Conditions {
+        zero,
+        minus,
+        plus,
+        even,
+        carry_off: false,
+        overflow_off: false,
+    };
+    [
+        skips(0, &conditions),
+        skips(1, &conditions),
+        skips(2, &conditions),
+        skips(65_535, &conditions),
+        skips(65_534, &conditions),
+    ]
 }

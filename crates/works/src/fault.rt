@@ -1,22 +1,22 @@
 // What went wrong, and whose doing it was.
 use device::answer::DeviceFault;
 
-#[derive(Clone, Copy)]
-pub enum Cause {
-    Parity,
-    Protect,
-    Operation,
-    Busy,
-    NotTaken,
-    NoDevice,
-}
-
 // What a channel met: a command that its device refused, or a check in one of its cycles.
 #[derive(Clone, Copy)]
 pub enum ChannelFault {
     Refused(DeviceFault),
-    WrongParity,
-    Protected,
+    Parity,
+    Protect,
+}
+
+// The cause of a fault: what a channel met, or what the program did.
+#[derive(Clone, Copy)]
+pub enum Cause {
+    Channel(ChannelFault),
+    Parity,
+    Protect,
+    Operation,
+    NoDevice,
 }
 
 #[derive(Clone, Copy)]

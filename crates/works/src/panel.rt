@@ -17,7 +17,7 @@ pub enum RunState {
     Waiting,
 }
 
-// Cycles since opening or the last accepted count.
+// Cycles since opening or the last accepted count. How many of them each device was told of is their sum.
 #[derive(Clone, Copy)]
 pub struct Counts {
     pub program: u64,
