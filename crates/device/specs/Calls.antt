@@ -64,8 +64,8 @@ when-there (Some p) after before = after
 abbrev pub get-control : Meaning → List ℕ → ℕ → List ℕ
 get-control m c area = when-there (get-place m c area) (m .got c area) c
 
--- Bring: if it asks to bring, answers and removes one word, at a place that follows from control, or 0 and none where
--- control has none, and control may change besides. Else 0 and no change.
+-- Bring, where the device asks for it: the word at the place that control has, which is then gone, or 0 with no such place; control
+-- may change in either case. Where it does not ask, 0 and no change.
 abbrev pub when-brings : {X : Type 0} → Asking → X → X → X
 when-brings Nothing asked other = other
 when-brings Bring asked other = asked

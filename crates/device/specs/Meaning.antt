@@ -1,6 +1,6 @@
 -- What a make of device means.
--- A device means two lists: the words that it has yet to bring, and its control, which are numbers. All that it does
--- follows from control. So a make is a record of functions of control, and none of them sees the words.
+-- A device means two lists of numbers: words, which are still to come from it, and control, by which it works. So a make is a record
+-- of functions of control, and none of them sees the words.
 use mathlib.Core.Bool.{Bool}
 use mathlib.Core.List.{List}
 use Prim.Native.Nat.{ℕ}

@@ -3,9 +3,9 @@
 // Why a device turned a command down.
 #[derive(Clone, Copy, PartialEq, Eq, Debug)]
 pub enum DeviceFault {
-    // the function is not among those of the area
+    // the area has no such function
     NotTaken,
-    // the device operates, and the function is not Control
+    // it is at work, and this is another function than Control
     Busy,
 }
 

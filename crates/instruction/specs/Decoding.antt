@@ -1,4 +1,4 @@
--- The first word of an instruction, by its bits. Bit 0 is the leftmost of sixteen.
+-- The first word of an instruction, by its bits, which are numbered from the left, from 0.
 --
 --     0-4 operation code    5 F, the long form    6-7 T, the tag    8-15 displacement
 --     8 indirect (long form)    9 branch out    10-15 conditions, or a shift count

@@ -1,4 +1,4 @@
-// Decoding. Bit 0 is the leftmost of sixteen.
+// Decoding. Bits are numbered from the left, from 0.
 ghost use mathlib.Core.Path.{_≡_};
 ghost use Prim.Native.Nat.{_%_};
 ghost use Rattle.instruction.specs.Decoding.{by-code as the-operation, short-only, decoded, index-of as the-index, extended as the-extended, conditions-of as the-conditions, fields-of as the-fields};

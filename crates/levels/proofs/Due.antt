@@ -6,9 +6,9 @@ use mathlib.Core.Logic.{_⊎_, inl, inr, ⊎-elim}
 use Prim.Native.Nat.{ℕ, zero, suc, _+_, _<_, _≤_}
 use native.Mathlib.Omega.{arith}
 use lib.Dec.{eqb}
-use lib.ListN.{length, getD}
+use lib.ListN.{length, getD, List·getD-eq-default}
 use borrow.Author.Tests.{eqb-true, eqb-false, eq-eqb, ne-eqb}
-use Rattle.std.proofs.shelf.Tests.{cases-bool, and-parts, and-from, not-from-false, not-from-true}
+use Rattle.std.proofs.shelf.Tests.{cases-bool, cases-lt, and-parts, and-from, not-from-false, not-from-true}
 use Rattle.std.specs.declared.option.Option.{Option}
 use Rattle.std.specs.declared.option.Option.the-variants.{Some, None}
 use Rattle.levels.specs.declared.state.Flags.{Flags}
@@ -19,7 +19,7 @@ use Rattle.levels.specs.declared.state.Interrupt.{Interrupt}
 use Rattle.levels.specs.declared.state.Interrupt.the-variants.{Internal, Level}
 use Rattle.levels.specs.Choice.{first-from, first-behind}
 use Rattle.levels.specs.Standing.{flag-word, is-masked, standing}
-use Rattle.levels.specs.Interrupts.{the-level, due}
+use Rattle.levels.specs.Interrupts.{the-level, due, highest}
 use Rattle.levels.proofs.Walks.{first-some, first-none}
 use Rattle.levels.specs.Laws.{Stands, Internal-stands, Interrupt-rules}
 
@@ -151,10 +151,29 @@ module _ (f : Flags) (m : Masks) (words : List ℕ) (s : Service) where
         let g = no-level _ (rw e at d) in
         (λ t. true≢false (sym (internal-tested f s t) ∙ e), λ k h. apart k h (first-none (λ w. w .wish) nobody (standing m (not (s .internal)) 0 (s .levels) words) 0 g k (omega (arith, long))))
 
+-- the highest in service
+module _ (s : Service) where
+  level-served : (n : ℕ) (t : Bool) → s .internal ≡ t → highest s ≡ Some (Level n) → (s .internal ≡ false) × (getD (s .levels) n false ≡ true) × ((k : ℕ) → k < n → getD (s .levels) k false ≡ false)
+  level-served n true e d = let g = rw e at d in let z : _≡_ {A = ℕ} 0 1 = cc in absurd (omega arith)
+  level-served n false e d =
+      let g = level-is _ n (rw e at d) in
+      let r = first-some (λ on. on) false (s .levels) 0 n g in
+      let q : r .0 ≡ n = omega (arith, r .1 .0) in
+      (e, subst (λ (x : ℕ). getD (s .levels) x false ≡ true) q (r .1 .2), λ k h. r .1 .3 k (omega arith))
+
+  none-served : (t : Bool) → s .internal ≡ t → highest s ≡ None → (s .internal ≡ false) × ((k : ℕ) → getD (s .levels) k false ≡ false)
+  none-served true e d = let g = rw e at d in let z : _≡_ {A = ℕ} 0 1 = cc in absurd (omega arith)
+  none-served false e d =
+      let g = no-level _ (rw e at d) in
+      (e, λ k. ⊎-elim (λ h. first-none (λ on. on) false (s .levels) 0 g k h) (λ h. List·getD-eq-default (s .levels) false h) (cases-lt k (length (s .levels))))
+
 pub interrupt-rules : Interrupt-rules
 interrupt-rules = record {
   internal-first = λ f m words s t. rw (internal-tested f s t);
   internal-only = λ f m words s d. first-is-internal f m words s _ refl d;
   level-stands = λ f m words s n lw ls d. level-due f m words s lw ls n _ refl d;
   none-stands = λ f m words s lw ls d. none-due f m words s lw ls _ refl d;
+  highest-internal = λ s e. rw e;
+  highest-level = λ s n d. level-served s n _ refl d;
+  highest-none = λ s d. none-served s _ refl d;
 }

@@ -13,7 +13,7 @@ use Rattle.levels.specs.declared.state.LevelWish.{LevelWish}
 abbrev pub flag-word : Flags → ℕ
 flag-word f = cond (f .parity) 32768 0 + cond (f .operation) 16384 0 + cond (f .protect) 8192 0
 
--- a level's status has the bits of its latched points and of its raised lines
+-- a level's status word is made of its latched points and raised lines
 abbrev pub status : List ℕ → ℕ → ℕ → ℕ
 status points level lines = cond (ltb level 24) (bitOr (getD points level 0) lines) lines
 

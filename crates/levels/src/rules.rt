@@ -5,7 +5,7 @@ ghost use Rattle.levels.specs.Laws.{Interrupt-rules};
 // How many rules there are; all of them stand.
 pub fn interrupt_rules() -> u32
     ensures stand { λ _. ⌜ Interrupt-rules ⌝ }
-    ensures count { λ r. ⌜ r ≡ 4 ⌝ }
+    ensures count { λ r. ⌜ r ≡ 7 ⌝ }
 {
-    4
+    7
 }

@@ -2,5 +2,3 @@ pub mod Parts
 pub mod Arithmetic
 pub mod Shifts
 pub mod Branches
-pub mod Laws
-pub mod ShiftLaws

@@ -24,7 +24,7 @@ abbrev pub times : ℕ → Shift → Registers → Registers
 times zero s r = r
 times (suc n) s r = times n s (once s r)
 
--- Shift and count: stops at a one in bit 0 of A, or when the count is used up. The registers then, and the count left.
+-- Shift and count: as long as bit 0 of A is off and the count lasts. The registers then, and the count left.
 abbrev pub counted : ℕ → Shift → Registers → Registers
 counted zero s r = r
 counted (suc n) s r = cond (leb 32768 (r .a)) r (counted n s (once s r))

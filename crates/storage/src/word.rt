@@ -1,4 +1,4 @@
-// The storage word, in the low 18 bits of a host's 32-bit number. Bits above them are ignored, and stored as zero.
+// The storage word, in the low 18 bits of a host's number. What a host keeps above them does not count, and a store leaves zero there.
 ghost use mathlib.Core.Path.{_≡_};
 ghost use Prim.Native.Nat.{_<_};
 ghost use Rattle.storage.specs.Word.{data-of, is-protected, parity-right, seventeen-bits, with-parity, word-of as the-word, stored as the-stored, Sound, Only-word};

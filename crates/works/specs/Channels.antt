@@ -1,4 +1,4 @@
--- A channel's wish: a head, and the word that names the next head, always want a cycle; data want one when the device asks.
+-- A channel's wish: at a head, and at the word that names the next, always; in data, as the device asks.
 use mathlib.Core.Bool.{Bool, true, false}
 use Prim.Native.Nat.{ℕ}
 use Rattle.device.specs.declared.answer.Asking.{Asking}

@@ -1,4 +1,4 @@
-// A device's refusal goes inside the channel's fault, and that inside the controller's, carried by `?`. Whoever knows the place sets it.
+// The channel's fault wraps the device's refusal, and the controller's wraps the channel's, carried by `?`. Whoever knows the place sets it.
 ghost use mathlib.Core.Path.{_≡_};
 ghost use Rattle.works.specs.declared.fault.ChannelFault.the-variants.{Refused as the-refused};
 ghost use Rattle.device.specs.Calls.{command-answer, command-control};

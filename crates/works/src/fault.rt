@@ -25,6 +25,6 @@ pub struct Fault {
     pub address: u16,
     // 0 the program, 1 to 4 a device
     pub by: u32,
-    // the device's kind number, 0 for the program
+    // the kind of that device; the program has kind 0
     pub kind: u32,
 }

@@ -1,9 +1,9 @@
 // The console's switches, the run state, and the counts of cycles.
 #[derive(Clone, Copy)]
 pub struct Switches {
-    // sixteen data entry switches
+    // the data entry switches
     pub data: u16,
-    // eight sense switches
+    // the sense switches, the first in the highest bit
     pub sense: u8,
     pub check_stop: bool,
     // at Yes
@@ -17,7 +17,7 @@ pub enum RunState {
     Waiting,
 }
 
-// Cycles since opening or the last accepted count. How many of them each device was told of is their sum.
+// Cycles so far, since they were last set to 0. Their sum is how many each device was told of.
 #[derive(Clone, Copy)]
 pub struct Counts {
     pub program: u64,

@@ -7,7 +7,7 @@ use lib.IntN.{ℤ, pos, negsuc, negℤ, natAbs, _+ℤ_, _*ℤ_}
 use lib.Signed.{mag, quotZ, remZ}
 use Rattle.std.proofs.shelf.Bits.{div-add-mod', mod-below}
 use Rattle.std.proofs.shelf.Signed.{ints}
-use Rattle.registers.specs.Laws.{Divides}
+use Rattle.register_laws.specs.Laws.{Divides}
 
 size-neg : (n : ℕ) → natAbs (negℤ (pos n)) ≡ n
 size-neg zero = refl

@@ -1,7 +1,7 @@
-// The signed rules, as a theorem about the definitions that the methods' contracts cite.
+// The laws of registers, as theorems about the definitions that the contracts of their methods cite.
 ghost use mathlib.Core.Path.{_≡_};
-ghost use Rattle.registers.specs.Laws.{Signed-rules};
-ghost use Rattle.registers.specs.ShiftLaws.{Shift-rules};
+ghost use Rattle.register_laws.specs.Laws.{Signed-rules};
+ghost use Rattle.register_laws.specs.ShiftLaws.{Shift-rules};
 
 // How many signed rules there are; all of them stand.
 pub fn signed_rules() -> u32

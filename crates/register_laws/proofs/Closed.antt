@@ -11,28 +11,23 @@ use lib.Signed.{shrZ}
 use borrow.Author.Tests.{leb-true, leb-false, lt-ltb, le-ltb}
 use Rattle.std.proofs.shelf.Bits.{shr-shr, pow-add, mod-pow-add}
 use Rattle.std.proofs.shelf.Tests.{cases-bool}
 use Rattle.registers.specs.declared.state.Registers.{Registers}
 use Rattle.registers.specs.declared.state.Shift.{Shift}
 use Rattle.registers.specs.declared.state.Shift.the-variants.{LeftA, LeftBoth, RightA, RightBoth, Rotate}
 use Rattle.registers.specs.Parts.{both, with-both}
 use Rattle.registers.specs.Arithmetic.{signed-both}
 use Rattle.registers.specs.Shifts.{once, times, counted, count-left}
-use Rattle.registers.specs.Laws.{Sixteen}
-use Rattle.registers.specs.ShiftLaws.{Counts, Shift-rules}
+use Rattle.register_laws.specs.Laws.{Sixteen}
+use Rattle.register_laws.proofs.Signs.{below, both-of}
+use Rattle.register_laws.specs.ShiftLaws.{Counts, Shift-rules}
 
 -- a step more at the end, and sixteen bits stay sixteen
 times-last : (n : ℕ) (s : Shift) (r : Registers) → times (suc n) s r ≡ once s (times n s r)
 times-last zero s r = refl
 times-last (suc n) s r = times-last n s (once s r)
 
-below : (r : Registers) → Sixteen r → both r < 4294967296
-below r t = let x = t .a in let y = t .q in omega arith
-
 split : (n : ℕ) (r : Registers) → n < 4294967296 → Sixteen (with-both n r)
 split n r h = record { a = omega arith; q = omega arith }
-
-both-of : (n : ℕ) (r : Registers) → both (with-both n r) ≡ n
-both-of n r = omega arith
 
 once-sixteen : (s : Shift) (r : Registers) → Sixteen r → Sixteen (once s r)
 once-sixteen LeftA r t = record { a = omega arith; q = t .q }

@@ -14,12 +14,12 @@ use Rattle.std.proofs.shelf.Signed.{ints, toZ-ofZ}
 use Rattle.std.proofs.shelf.Tests.{or-right}
 use Rattle.std.specs.declared.option.Option.{Option}
 use Rattle.std.specs.declared.option.Option.the-variants.{Some, None}
 use Rattle.registers.specs.declared.state.Registers.{Registers}
 use Rattle.registers.specs.Parts.{both, with-both}
 use Rattle.registers.specs.Arithmetic.{signed, signed-both, added, subtracted, added-both, subtracted-both, multiplied, outside, outside-both, quotient, with-quotient, divided}
-use Rattle.registers.specs.Laws.{Range, Stands-for, Sixteen, Divides, Signed-rules}
-use Rattle.registers.proofs.Division.{divides}
+use Rattle.register_laws.specs.Laws.{Range, Stands-for, Sixteen, Divides, Signed-rules}
+use Rattle.register_laws.proofs.Division.{divides}
 use Rattle.registers.proofs.Products.{product-fits}
 
 -- 16 bits: the ends of the range, and what sums and differences stand for
 range16 : (z : ℤ) → Range (negsuc 32767) (pos 32767) z (outside z)
@@ -56,10 +56,10 @@ difference32 : (a b : ℕ) → a < 4294967296 → b < 4294967296 → Stands-for 
 difference32 a b h k = record { in-range = within32 ((a + (4294967296 - b)) % 4294967296) (omega arith); congruent = grind (arith, ints); exact = λ e. grind (arith, ints) }
 
 -- A and Q together are the number that was put into them
-both-of : (n : ℕ) (r : Registers) → both (with-both n r) ≡ n
+pub both-of : (n : ℕ) (r : Registers) → both (with-both n r) ≡ n
 both-of n r = omega arith
 
-below : (r : Registers) → Sixteen r → both r < 4294967296
+pub below : (r : Registers) → Sixteen r → both r < 4294967296
 below r s = let x = s .a in let y = s .q in omega arith
 
 small : (n : ℕ) → n < 65536 → mag (signed n) < 32768

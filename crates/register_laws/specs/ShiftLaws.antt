@@ -4,15 +4,15 @@ use mathlib.Core.Bool.{Bool}
 use Prim.Native.Nat.{ℕ, suc, _+_, _-_, _*_, _/_, _%_, _^_, _<_, _≤_}
 use lib.Dec.{leb}
 use lib.Signed.{shrZ}
 use Rattle.registers.specs.declared.state.Registers.{Registers}
 use Rattle.registers.specs.declared.state.Shift.{Shift}
 use Rattle.registers.specs.declared.state.Shift.the-variants.{LeftA, LeftBoth, RightA, RightBoth, Rotate}
 use Rattle.registers.specs.Parts.{both}
 use Rattle.registers.specs.Arithmetic.{signed-both}
 use Rattle.registers.specs.Shifts.{times, counted, count-left}
-use Rattle.registers.specs.Laws.{Sixteen}
+use Rattle.register_laws.specs.Laws.{Sixteen}
 
--- a shift that counts makes so many steps as its count has lost; it stops at a one in bit 0, and makes no step at one
+-- a shift that counts makes so many steps as its count has lost; with count left over, bit 0 is on; before each step it was off
 pub record Counts (n : ℕ) (s : Shift) (r : Registers) : Type 0 where
   pub bound : count-left n s r ≤ n
   pub steps : counted n s r ≡ times (n - count-left n s r) s r

@@ -1,0 +1,3 @@
+pub mod Closed
+pub mod Division
+pub mod Signs
