@@ -1,5 +1,7 @@
 // Runs a fixed loop of four instructions (load, add, store, and back) for as many steps as its argument says, and prints steps and cycles. It is
 // for timing the step; the gate runs it for a few steps only.
+#![tactic(auto)]
+
 use controller::controller::Controller;
 use device::interface::{ChannelDevice, Device};
 use engine::state::{Wire, Wiring};

@@ -1,4 +1,6 @@
 // Decks that the definition runs, with what was settled for them.
+#![tactic(auto)]
+
 ghost use Rattle.std.specs.Prelude.{◌≡◌, length};
 ghost use Rattle.decks.specs.Decks.{decks, DecksHold};
 

@@ -1,4 +1,6 @@
 // What a device is: the two traits that a make implements, and what a make means.
+#![tactic(auto)]
+
 pub mod answer;
 pub mod function;
 pub mod interface;

@@ -1,4 +1,6 @@
 // Shows what a device is: a scanner is lent a few readings, started, and served as a channel would serve it, cycle by cycle.
+#![tactic(auto)]
+
 mod absent;
 
 use absent::Absent;

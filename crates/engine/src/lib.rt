@@ -1,5 +1,7 @@
 // The machine: its own plain state with its four devices, and what it does. The definition of cycles, plans, instructions, XIO, interrupts and the
 // step is in specs/.
+#![tactic(auto)]
+
 mod arithmetic;
 mod branches;
 mod channels;

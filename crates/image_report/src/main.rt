@@ -1,4 +1,6 @@
 // Reads an image from standard input, and prints what it holds.
+#![tactic(auto)]
+
 use std::io::Read;
 use storage::survey::{Survey, survey_image};
 

@@ -1,3 +1,5 @@
 // Decoding: what the first word of an instruction says.
+#![tactic(auto)]
+
 pub mod decoding;
 pub mod words;

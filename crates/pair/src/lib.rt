@@ -1,4 +1,6 @@
 // Two channel devices on one channel, which are one channel device again. So pairs of pairs work.
+#![tactic(auto)]
+
 ghost use Rattle.std.specs.Prelude.{◌≡◌, ◌++◌, Ok};
 ghost use Rattle.pair.specs.Pairs.{pair, joined};
 ghost use Rattle.pair.specs.Shown.{pair_lawful, pair_numbered};

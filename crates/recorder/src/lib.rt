@@ -1,4 +1,6 @@
 // The recorder takes words, and keeps how many there were and the latest.
+#![tactic(auto)]
+
 ghost use Rattle.std.specs.Prelude.{◌≡◌, ◌+◌, ◌%◌, [], Err, refl};
 ghost use Rattle.refusal.specs.declared.Refusal.{Refusal as Refused};
 ghost use Rattle.device.specs.Laws.{AnswersNone};

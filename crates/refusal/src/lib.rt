@@ -1,4 +1,6 @@
 // Why a call was turned down. A refused call changes nothing.
+#![tactic(auto)]
+
 ghost use Rattle.std.specs.Prelude.{◌≡◌, Some};
 ghost use Rattle.refusal.specs.Numbers.{number as refusal_number, text as refusal_text};
 

@@ -1,4 +1,6 @@
 // The laws of registers, as theorems about the definitions that the contracts of their methods cite.
+#![tactic(auto)]
+
 ghost use Rattle.std.specs.Prelude.{◌≡◌};
 ghost use Rattle.register_laws.specs.Laws.{SignedRules};
 ghost use Rattle.register_laws.specs.ShiftLaws.{ShiftRules};

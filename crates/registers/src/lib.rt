@@ -1,4 +1,6 @@
 // The processor's registers, with a method for each group of instructions.
+#![tactic(auto)]
+
 pub mod arithmetic;
 pub mod branches;
 pub mod shifts;

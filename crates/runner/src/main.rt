@@ -1,4 +1,6 @@
 // Runs an image: reads 4,096 records from standard input, starts at 0, and prints a line for each step.
+#![tactic(auto)]
+
 use controller::controller::Controller;
 use controller::opening::check_opening;
 use device::interface::{ChannelDevice, Device};

@@ -1,4 +1,6 @@
 // The scanner brings the words of a lent list, first to last.
+#![tactic(auto)]
+
 ghost use Rattle.std.specs.Prelude.{◌≡◌, length, Err, refl};
 ghost use Rattle.scanner.specs.Shown.{scanner_lawful};
 ghost use Rattle.refusal.specs.declared.Refusal.{Refusal as Refused};

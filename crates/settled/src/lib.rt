@@ -1,4 +1,6 @@
 // The settled examples, as theorems about the definitions and as what the code answers.
+#![tactic(auto)]
+
 ghost use Rattle.std.specs.Prelude.{◌≡◌, ◌++◌, map, length};
 ghost use Rattle.settled.specs.Examples.{AllHold, examples, word_examples, sum_examples, division_examples, shift_examples, counting_examples, skips_at, bit as the_bit, numbers, holding as the_registers, seen as the_seen, count_a};
 ghost use Rattle.registers.specs.Branches.{holds};

@@ -1,4 +1,6 @@
 // Storage words and image files: what a core is made of, and how it is kept in a file.
+#![tactic(auto)]
+
 pub mod image;
 pub mod memory;
 pub mod survey;
@@ -8,8 +10,8 @@ pub mod word;
 mod tests {
     use crate::image::decode;
     use crate::word::{data_of, is_protected, parity_is_right, stored, word_of};
-    use refusal::{Refusal, RefusalDebug, RefusalPartialEq};
-    use std::test::*;
+    use refusal::Refusal;
+    use std::test::Fail;
 
     struct Row {
         data: u16,
@@ -52,31 +54,31 @@ mod tests {
     ];
 
     #[test]
-    fn words() -> Result<(), Fail> {
+    fn words(rt: HostRuntime) {
         for row in &ROWS {
-            check_eq(word_of(row.data, row.protect), row.word)?;
-            check_eq(data_of(row.word), row.data)?;
-            check_eq(is_protected(row.word), row.protect)?;
-            check(parity_is_right(row.word))?;
-            check(!parity_is_right(row.word ^ 0x1_0000))?;
+            assert_eq!(rt; word_of(row.data, row.protect), row.word);
+            assert_eq!(rt; data_of(row.word), row.data);
+            assert_eq!(rt; is_protected(row.word), row.protect);
+            assert!(rt; parity_is_right(row.word));
+            assert!(rt; !parity_is_right(row.word ^ 0x1_0000));
             // bits above the eighteenth are ignored, and gone after a store
-            check_eq(stored(row.word | 0xFFFC_0000, row.data), row.word)?;
+            assert_eq!(rt; stored(row.word | 0xFFFC_0000, row.data), row.word);
         }
-        Ok(())
     }
 
     #[test]
-    fn a_refused_image_changes_nothing(rt: LibcRuntime) -> Result<(), Fail> {
+    fn a_refused_image_changes_nothing(rt: HostRuntime) -> Result<(), Fail> {
         let heap = rt.alloc();
         let mut core = vec![in heap; 7u32; 4096]?;
         let mut image = vec![in heap; 3u8; 12_288]?;
         image.pop();
-        check_eq(decode(&image, &mut core), Err(Refusal::Length))?;
+        assert_eq!(rt; decode(&image, &mut core), Err(Refusal::Length));
         image.push(0)?;
-        check(image.len() == 12_288)?;
+        assert!(rt; image.len() == 12_288);
         image[12_285] = 4;
-        check_eq(decode(&image, &mut core), Err(Refusal::ImageByte))?;
-        check_eq(core.iter().copied().min(), Some(7))?;
-        check_eq(core.iter().copied().max(), Some(7))
+        assert_eq!(rt; decode(&image, &mut core), Err(Refusal::ImageByte));
+        assert_eq!(rt; core.iter().copied().min(), Some(7));
+        assert_eq!(rt; core.iter().copied().max(), Some(7));
+        Ok(())
     }
 }

@@ -1,4 +1,6 @@
 // The controller's own plain state besides registers and levels: channel records, switches, counts, faults.
+#![tactic(auto)]
+
 pub mod chain;
 pub mod channel;
 pub mod fault;
