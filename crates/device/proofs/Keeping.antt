@@ -1,5 +1,5 @@
 -- From what a make's own functions keep to what every call keeps: a make shows `Parts`, and has `Lawful`.
-use Rattle.std.proofs.Common.{◌≡◌, ℕ, ◌+◌, ◌%◌, ◌<◌, Bool, true, false, cond, not, ◌&&◌, eqb, List, Some, None, Ok, Err, Option, Result, sym, refl, ◌∙◌, subst, add-zero, arith}
+use Rattle.std.proofs.Common.{◌≡◌, ℕ, ◌+◌, ◌%◌, ◌<◌, Bool, true, false, cond, ◌&&◌, eqb, List, Some, None, Ok, Err, Option, Result, refl, ◌∙◌, add-zero, arith}
 use Rattle.device.specs.declared.answer.Asking.{Asking}
 use Rattle.device.specs.declared.answer.Asking.TheVariants.{Nothing, Bring, Take}
 use Rattle.device.specs.declared.answer.DeviceFault.{DeviceFault}

@@ -1,5 +1,5 @@
 -- The calls of a device: what each answers, and what control and words are after it, for a make of any meaning.
-use Rattle.std.specs.Prelude.{ℕ, ◌+◌, ◌%◌, Bool, true, false, cond, not, ◌&&◌, List, ◌++◌, take, drop, Some, None, Ok, Err, Option, Result, ◌==◌, slice_index}
+use Rattle.std.specs.Prelude.{ℕ, ◌+◌, ◌%◌, cond, not, ◌&&◌, List, ◌++◌, take, drop, Some, None, Ok, Err, Option, Result, ◌==◌, slice_index}
 use Rattle.device.specs.declared.answer.Asking.{Asking}
 use Rattle.device.specs.declared.answer.Asking.TheVariants.{Nothing, Bring, Take}
 use Rattle.device.specs.declared.answer.DeviceFault.{DeviceFault}

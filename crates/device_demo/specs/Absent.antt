@@ -1,6 +1,6 @@
 -- A make that answers to no area and refuses everything. It has no words and no control. The traits ask nothing of a make beyond
 -- its meaning, so this is a device like any other. Its meaning comes first, and then the evidence that it is lawful.
-use Rattle.std.specs.Prelude.{◌≡◌, ℕ, true, false, [], None, refl}
+use Rattle.std.specs.Prelude.{◌≡◌, ℕ, false, None, refl}
 use Rattle.std.proofs.Common.{sym, true≢false, arith}
 use Rattle.device.specs.Meaning.{Meaning, no_channel}
 use Rattle.device.specs.Laws.{Lawful}

@@ -1,15 +1,13 @@
 -- What is due, and why.
-use Rattle.std.proofs.Common.{◌≡◌, ℕ, zero, suc, ◌+◌, ◌<◌, ◌≤◌, Bool, true, false, cond, not, ◌&&◌, eqb, ◌⊎◌, List, [], ◌∷◌, length, get_or, Some, None, Option, sym, refl, ap, ◌∙◌, subst, inl, inr, ⊎_elim, true≢false, arith, eq-eqb, ne_eqb, eqb-true}
+use Rattle.std.proofs.Common.{◌≡◌, ℕ, zero, suc, ◌+◌, ◌<◌, ◌≤◌, Bool, true, false, not, ◌&&◌, eqb, List, [], ◌∷◌, length, get_or, Some, None, Option, sym, refl, ap, ◌∙◌, subst, ⊎_elim, true≢false, arith, ne_eqb}
 use lib.ListN.{get_or-eq_default}
 use borrow.Author.Tests.{eqb-false}
-use Rattle.std.proofs.lemmas.Bool.{cases_Bool, cases_lt, and_parts, and_from, not_from_false, not_from_true}
+use Rattle.std.proofs.lemmas.Bool.{cases_lt, and_parts, and_from, not_from_false}
 use Rattle.levels.specs.declared.state.Flags.{Flags}
 use Rattle.levels.specs.declared.state.Masks.{Masks}
 use Rattle.levels.specs.declared.state.Service.{Service}
 use Rattle.levels.specs.declared.state.LevelWish.{LevelWish}
-use Rattle.levels.specs.declared.state.Interrupt.{Interrupt}
 use Rattle.levels.specs.declared.state.Interrupt.TheVariants.{Internal, Level}
-use Rattle.levels.specs.Choice.{first_from, first_behind}
 use Rattle.levels.specs.Standing.{flag_word, is_masked, standing}
 use Rattle.levels.specs.Interrupts.{the_level, due, highest}
 use Rattle.levels.proofs.Walks.{first_some, first_none}

@@ -1,5 +1,5 @@
 -- Which interrupt is due, which is in service, and how service and masks change.
-use Rattle.std.specs.Prelude.{ℕ, ◌/◌, Bool, true, false, cond, not, ◌&&◌, List, Some, None, Option, ◌==◌, nat_lt, slice_set}
+use Rattle.std.specs.Prelude.{ℕ, ◌/◌, Bool, false, cond, not, ◌&&◌, List, Some, None, Option, ◌==◌, nat_lt, slice_set}
 use Rattle.levels.specs.declared.state.Flags.{Flags}
 use Rattle.levels.specs.declared.state.Masks.{Masks}
 use Rattle.levels.specs.declared.state.Service.{Service}

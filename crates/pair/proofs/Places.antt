@@ -1,13 +1,12 @@
 -- Where a word of a pair stands, and what get and bring leave.
-use Rattle.std.proofs.Common.{◌≡◌, ℕ, ◌+◌, ◌<◌, ◌≤◌, Bool, true, false, cond, not, ◌||◌, List, [], ◌∷◌, ◌++◌, length, get_or, take, drop, Some, None, Option, sym, refl, ap, ◌∙◌, ap₂, append_assoc, add_comm, arith}
+use Rattle.std.proofs.Common.{◌≡◌, ℕ, ◌+◌, ◌<◌, ◌≤◌, Bool, true, false, cond, not, ◌||◌, List, ◌++◌, length, Some, None, Option, sym, refl, ap, ◌∙◌, append_assoc, arith}
 use Rattle.std.proofs.lemmas.List.{get_or_append_left, get_or-append-add}
 use lib.Seq.{take-append-le, drop-append-le, take-append-add, drop-append-add}
 use Rattle.device.specs.declared.answer.Asking.{Asking}
 use Rattle.device.specs.declared.answer.Asking.TheVariants.{Nothing, Bring, Take}
 use Rattle.device.specs.Meaning.{Meaning}
 use Rattle.device.specs.Calls.{word_at, removed, get_place, get_control, when_there, bring_place, bring_control, when_brings}
-use Rattle.device.specs.Laws.{Lawful}
-use Rattle.pair.specs.Pairs.{joined, first_of, second_of, behind, by_area, by_work, calls, pair, pair_channel}
+use Rattle.pair.specs.Pairs.{joined, behind, by_area, by_work, calls, pair, pair_channel}
 use Rattle.pair.specs.Shown.{first_joined, second_joined}
 
 -- a place in the first's words, and one behind them

@@ -1,6 +1,6 @@
 -- Two channel devices on one channel make a channel device of kind 3. Its words are the words of one and then of the other;
 -- its control begins with the length of the first control, then come the two controls.
-use Rattle.std.specs.Prelude.{ℕ, ◌+◌, Bool, true, false, cond, not, ◌||◌, List, [], ◌∷◌, ◌++◌, length, take, drop, Some, None, Option, slice_index}
+use Rattle.std.specs.Prelude.{ℕ, ◌+◌, Bool, cond, not, ◌||◌, List, ◌∷◌, ◌++◌, length, take, drop, Some, None, Option, slice_index}
 use Rattle.device.specs.Meaning.{Meaning, ChannelMeaning}
 use Rattle.device.specs.Calls.{command_control, sense_answer, sense_control, put_control, get_place, get_control, bring_place, bring_control, take_control}
 

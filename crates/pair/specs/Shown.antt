@@ -1,11 +1,9 @@
 -- The pair of two lawful makes is lawful. There is nothing here to believe: the checker reads it.
-use Rattle.std.specs.Prelude.{◌≡◌, ℕ, ◌+◌, ◌<◌, Bool, true, false, cond, not, ◌||◌, ◌⊎◌, List, [], ◌∷◌, ◌++◌, length, take, drop, Some, None, Option, refl}
-use Rattle.std.proofs.Common.{sym, ap, ap₂, subst, ◌∙◌, true≢false, inl, inr, ⊎_elim, arith, length-append}
+use Rattle.std.specs.Prelude.{◌≡◌, ℕ, ◌+◌, ◌<◌, Bool, true, false, cond, ◌||◌, List, ◌++◌, length, Some, None, Option, refl}
+use Rattle.std.proofs.Common.{sym, ap, subst, ◌∙◌, true≢false, ⊎_elim, arith, length-append}
 use Rattle.std.proofs.Math.Seq.{take-append_seam, drop-append_seam}
 use Rattle.std.proofs.lemmas.Bool.{cases_Bool, or_cases, or_left, or_right}
-use Rattle.device.specs.declared.answer.Asking.{Asking}
-use Rattle.device.specs.declared.answer.Asking.TheVariants.{Nothing, Bring, Take}
-use Rattle.device.specs.Meaning.{Meaning, ChannelMeaning}
+use Rattle.device.specs.Meaning.{Meaning}
 use Rattle.device.specs.Calls.{command_control, sense_control, put_control, get_place, get_control, bring_place, bring_control, take_control, how_many}
 use Rattle.device.specs.Laws.{Keeps, Lawful}
 use Rattle.device.proofs.Keeping.{Parts, ChannelParts, lawful_by, channel_lawful_by}

@@ -1,6 +1,6 @@
 -- The recorder, kind 2: the same as the scanner with other functions, and taking, without a list. Behind a terminal's five
 -- numbers its control has the count of words handed to it, which wraps at 32 bits, and the latest of them.
-use Rattle.std.specs.Prelude.{ℕ, ◌+◌, ◌%◌, Bool, true, false, ◌||◌, List, [], ◌∷◌, None, ◌==◌, slice_index, slice_set}
+use Rattle.std.specs.Prelude.{ℕ, ◌+◌, ◌%◌, Bool, ◌||◌, List, [], ◌∷◌, None, ◌==◌, slice_index, slice_set}
 use Rattle.device.specs.declared.answer.Asking.TheVariants.{Take}
 use Rattle.device.specs.Meaning.{Meaning}
 use Rattle.terminal.specs.declared.state.Terminal.{Terminal}

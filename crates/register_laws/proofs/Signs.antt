@@ -1,11 +1,11 @@
 -- The signed rules.
-use Rattle.std.proofs.Common.{◌≡◌, ℕ, ◌+◌, ◌-◌, ◌*◌, ◌/◌, ◌%◌, ◌^◌, ◌<◌, ◌≤◌, Bool, true, false, ◌||◌, eqb, leb, ◌⊎◌, ℤ, pos, negsuc, ◌+ℤ◌, ◌-ℤ◌, ◌*ℤ◌, neg_ℤ, nat_abs, ◌≤ℤ◌, ◌<ℤ◌, Some, None, Option, sym, refl, ap, ◌∙◌, subst, inl, inr, ⊎_elim, arith, w16, w32, SFits, to_z, of_z, eq-eqb, ne_eqb, leb-false}
+use Rattle.std.proofs.Common.{◌≡◌, ℕ, ◌+◌, ◌-◌, ◌*◌, ◌/◌, ◌%◌, ◌<◌, ◌≤◌, Bool, true, false, eqb, ◌⊎◌, ℤ, pos, negsuc, ◌+ℤ◌, ◌-ℤ◌, ◌*ℤ◌, neg_ℤ, nat_abs, ◌≤ℤ◌, ◌<ℤ◌, Some, None, Option, sym, refl, ap, ◌∙◌, subst, inl, inr, arith, w16, w32, SFits, to_z, of_z, eq-eqb, ne_eqb, leb-false}
 use lib.Signed.{mag, quot_z, rem_z}
 use Rattle.std.proofs.lemmas.Int.{ints, to_z-of_z}
 use Rattle.std.proofs.lemmas.Bool.{or_right}
 use Rattle.registers.specs.declared.state.Registers.{Registers}
 use Rattle.registers.specs.Parts.{both, with_both}
-use Rattle.registers.specs.Arithmetic.{signed, signed_both, added, subtracted, added_both, subtracted_both, multiplied, outside, outside_both, quotient, with_quotient, divided}
+use Rattle.registers.specs.Arithmetic.{signed, signed_both, outside, outside_both, quotient, with_quotient, divided}
 use Rattle.register_laws.specs.Laws.{Range, StandsFor, Sixteen, Divides, SignedRules}
 use Rattle.register_laws.proofs.Division.{divides}
 use Rattle.registers.proofs.Products.{product_fits}

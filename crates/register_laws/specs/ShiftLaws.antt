@@ -1,5 +1,5 @@
 -- Shifts by a whole count, in closed form.
-use Rattle.std.specs.Prelude.{◌≡◌, ℕ, suc, ◌+◌, ◌-◌, ◌*◌, ◌/◌, ◌%◌, ◌^◌, ◌<◌, ◌≤◌, Bool, nat_le}
+use Rattle.std.specs.Prelude.{◌≡◌, ℕ, suc, ◌+◌, ◌-◌, ◌*◌, ◌/◌, ◌%◌, ◌^◌, ◌<◌, ◌≤◌, nat_le}
 use Rattle.std.specs.Int.Signed.{shr_z}
 use Rattle.registers.specs.declared.state.Registers.{Registers}
 use Rattle.registers.specs.declared.state.Shift.{Shift}

@@ -1,5 +1,5 @@
 -- Arithmetic, in two's complement. `signed` is the whole number that sixteen bits stand for, `signed_both` that of 32.
-use Rattle.std.specs.Prelude.{◌≡◌, ℕ, ◌+◌, ◌-◌, ◌*◌, ◌/◌, ◌%◌, ◌<◌, Bool, true, false, cond, ◌||◌, ◌⊎◌, ℤ, pos, negsuc, ◌+ℤ◌, ◌-ℤ◌, ◌*ℤ◌, Some, None, Option, ◌==◌, bit_and, bit_or, bit_xor, int_div, int_lt, int_rem, nat_le, nat_lt}
+use Rattle.std.specs.Prelude.{ℕ, ◌+◌, ◌-◌, ◌*◌, ◌%◌, Bool, true, cond, ◌||◌, ℤ, ◌+ℤ◌, ◌-ℤ◌, ◌*ℤ◌, Some, None, Option, ◌==◌, bit_and, bit_or, bit_xor, int_div, int_lt, int_rem, nat_le, nat_lt}
 use Rattle.std.specs.Int.Signed.{mag}
 use Rattle.std.specs.Int.{w16, w32}
 use Rattle.std.proofs.Common.{to_z, of_z}

@@ -1,5 +1,5 @@
 -- Conditions, index registers and status.
-use Rattle.std.specs.Prelude.{ℕ, ◌+◌, ◌*◌, ◌/◌, ◌%◌, Bool, true, false, cond, not, ◌&&◌, ◌||◌, pos, ◌==◌, int_lt}
+use Rattle.std.specs.Prelude.{ℕ, ◌+◌, ◌*◌, ◌/◌, ◌%◌, Bool, false, cond, not, ◌&&◌, ◌||◌, pos, ◌==◌, int_lt}
 use Rattle.instruction.specs.declared.words.Index.{Index}
 use Rattle.instruction.specs.declared.words.Conditions.{Conditions}
 use Rattle.registers.specs.declared.state.Registers.{Registers}

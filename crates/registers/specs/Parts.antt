@@ -1,5 +1,5 @@
 -- The registers, and one of them with another value.
-use Rattle.std.specs.Prelude.{ℕ, ◌+◌, ◌*◌, ◌/◌, ◌%◌, Bool, true, false}
+use Rattle.std.specs.Prelude.{ℕ, ◌+◌, ◌*◌, ◌/◌, ◌%◌, Bool}
 use Rattle.instruction.specs.declared.words.Index.{Index}
 use Rattle.instruction.specs.declared.words.Index.TheVariants.{One, Two, Three}
 use Rattle.registers.specs.declared.state.Registers.{Registers}

@@ -1,6 +1,6 @@
 -- The scanner, kind 1: brings the words of a lent list, first to last. Behind a terminal's five numbers its control has how many
 -- words are left.
-use Rattle.std.specs.Prelude.{ℕ, ◌-◌, Bool, true, false, cond, ◌||◌, List, [], ◌∷◌, length, Some, None, Option, ◌==◌, nat_lt, slice_index, slice_set}
+use Rattle.std.specs.Prelude.{ℕ, ◌-◌, Bool, cond, ◌||◌, List, [], ◌∷◌, length, Some, None, Option, ◌==◌, nat_lt, slice_index, slice_set}
 use Rattle.device.specs.declared.answer.Asking.TheVariants.{Nothing, Bring}
 use Rattle.device.specs.Meaning.{Meaning}
 use Rattle.terminal.specs.declared.state.Terminal.{Terminal}

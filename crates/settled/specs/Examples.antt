@@ -1,6 +1,6 @@
 -- The settled examples: numbers that were agreed by hand before there was any code, and worked examples of the machine's manual. One
 -- list for the whole controller; an example says which numbers the definitions work out, and which were settled.
-use Rattle.std.specs.Prelude.{◌≡◌, ℕ, Bool, true, false, cond, List, [], ◌∷◌, ◌++◌, map, Some, None}
+use Rattle.std.specs.Prelude.{◌≡◌, ℕ, Bool, true, false, cond, List, [], ◌∷◌, ◌++◌, map, Some}
 use Rattle.std.specs.List.{AllByRecursion as All}
 use Rattle.storage.specs.Word.{word_of}
 use Rattle.instruction.specs.declared.words.Index.TheVariants.{One}

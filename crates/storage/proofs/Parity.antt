@@ -1,9 +1,8 @@
 -- The parity bit: the word that is made is sound, and no other is.
-use Rattle.std.proofs.Common.{◌≡◌, ℕ, ◌+◌, ◌-◌, ◌*◌, ◌/◌, ◌%◌, ◌^◌, ◌<◌, ◌≤◌, Bool, true, false, eqb, ◌⊎◌, sym, refl, ap, ◌∙◌, inl, inr, ⊎_elim, add_comm, arith, eq-eqb, eqb-true}
+use Rattle.std.proofs.Common.{◌≡◌, ℕ, ◌+◌, ◌-◌, ◌%◌, ◌<◌, Bool, true, false, ◌⊎◌, refl, ap, ⊎_elim, add_comm, arith, eq-eqb, eqb-true}
 use borrow.Author.Tests.{eqb-false}
 use lib.Count.{ones, ones_cat, ones-ones}
-use Rattle.std.proofs.lemmas.Bool.Decides.{nat_tests}
-use Rattle.storage.specs.Word.{data_of, is_protected, protect_bit, parity_right, eighteen, seventeen_bits, with_parity, word_of, Sound, OnlyWord}
+use Rattle.storage.specs.Word.{protect_bit, eighteen, seventeen_bits, with_parity, word_of, Sound, OnlyWord}
 
 -- the parity bit is one more one
 pub ones_top : (x : ℕ) → x < 131072 → ones (x + 131072) ≡ ones x + 1

@@ -1,11 +1,11 @@
 -- Records of an image, one off the front, and the two round trips.
-use Rattle.std.proofs.Common.{◌≡◌, ℕ, ◌+◌, ◌-◌, ◌*◌, ◌/◌, ◌%◌, ◌<◌, ◌≤◌, Bool, true, false, cond, ◌&&◌, eqb, leb, List, [], ◌∷◌, ◌++◌, map, length, get_or, take, drop, set, Ok, Err, Result, sym, refl, ap, ◌∙◌, append_assoc, append-nil, arith, length-set, eqb-true, le-leb, leb-true}
+use Rattle.std.proofs.Common.{◌≡◌, ℕ, ◌+◌, ◌-◌, ◌*◌, ◌/◌, ◌%◌, ◌<◌, ◌≤◌, Bool, true, ◌&&◌, eqb, leb, List, [], ◌∷◌, ◌++◌, map, length, get_or, take, drop, set, Result, sym, refl, ap, ◌∙◌, append_assoc, append-nil, arith, length-set, eqb-true, le-leb, leb-true}
 use Rattle.std.proofs.lemmas.List.{take_rest, take_more_set, take_more, take_all}
 use Rattle.std.proofs.lemmas.Bool.{and_parts}
 use Rattle.refusal.specs.declared.Refusal.{Refusal}
 use Rattle.storage.specs.Word.{eighteen, data_of, protect_bit, parity_bit}
 use Rattle.storage.specs.Memory.{core_size}
-use Rattle.storage.specs.Image.{record_of, record_word, words_of, bytes_of, all_flags_fit, fits, decoding, SameWords}
+use Rattle.storage.specs.Image.{record_of, record_word, words_of, bytes_of, all_flags_fit, fits, SameWords}
 
 -- one record off the front
 pub front : (xs : List ℕ) → 3 ≤ length xs → get_or xs 0 0 ∷ (get_or xs 1 0 ∷ (get_or xs 2 0 ∷ drop 3 xs)) ≡ xs

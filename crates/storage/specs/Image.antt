@@ -1,6 +1,6 @@
 -- An image file keeps a core: for each storage word a record of three bytes, in order of address, and nothing else.
 -- A record is the flags, which are the protect bit plus twice the parity bit; the high byte of the data; the low byte.
-use Rattle.std.specs.Prelude.{◌≡◌, ℕ, ◌+◌, ◌*◌, ◌/◌, ◌%◌, Bool, true, false, cond, ◌&&◌, List, [], ◌∷◌, ◌++◌, map, length, Ok, Err, Result, ◌==◌, nat_le}
+use Rattle.std.specs.Prelude.{◌≡◌, ℕ, ◌+◌, ◌*◌, ◌/◌, ◌%◌, Bool, true, cond, ◌&&◌, List, [], ◌∷◌, ◌++◌, map, length, Ok, Err, Result, ◌==◌, nat_le}
 use Rattle.refusal.specs.declared.Refusal.{Refusal}
 use Rattle.refusal.specs.declared.Refusal.TheVariants.{Length, ImageByte}
 use Rattle.storage.specs.Word.{eighteen, data_of, protect_bit, parity_bit}

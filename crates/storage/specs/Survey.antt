@@ -1,5 +1,5 @@
 -- What a report on an image says of it.
-use Rattle.std.specs.Prelude.{ℕ, cond, ◌&&◌, List, length, Ok, Err, Result}
+use Rattle.std.specs.Prelude.{ℕ, cond, List, length, Ok, Err, Result}
 use Rattle.refusal.specs.declared.Refusal.{Refusal}
 use Rattle.refusal.specs.declared.Refusal.TheVariants.{Length}
 use Rattle.storage.specs.declared.survey.Survey.{Survey}

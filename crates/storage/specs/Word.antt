@@ -1,6 +1,6 @@
 -- A storage word: the low eighteen bits of a host's number. Sixteen are data, the next is the protect bit, the
 -- highest is the parity bit. What a host keeps above them is ignored.
-use Rattle.std.specs.Prelude.{◌≡◌, ℕ, ◌+◌, ◌-◌, ◌*◌, ◌/◌, ◌%◌, ◌<◌, Bool, true, false, cond, ◌==◌, count_ones}
+use Rattle.std.specs.Prelude.{◌≡◌, ℕ, ◌+◌, ◌-◌, ◌*◌, ◌/◌, ◌%◌, ◌<◌, Bool, true, cond, ◌==◌, count_ones}
 
 -- the eighteen bits
 abbrev pub eighteen : ℕ → ℕ

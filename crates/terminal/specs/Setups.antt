@@ -1,5 +1,5 @@
 -- What a scanner or a recorder is given: its area and its gap.
-use Rattle.std.specs.Prelude.{ℕ, Bool, true, false, cond, ◌&&◌, Ok, Err, Result, nat_lt}
+use Rattle.std.specs.Prelude.{ℕ, Bool, cond, ◌&&◌, Ok, Err, Result, nat_lt}
 use Rattle.refusal.specs.declared.Refusal.{Refusal}
 use Rattle.refusal.specs.declared.Refusal.TheVariants.{Area, Gap}
 use Rattle.terminal.specs.declared.setup.Setup.{Setup}

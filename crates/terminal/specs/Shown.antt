@@ -1,14 +1,12 @@
 -- What a make that is a terminal has to show of its meaning, shown but for what is its own. There is nothing here to believe: the checker reads it.
-use Rattle.std.specs.Prelude.{◌≡◌, ℕ, zero, suc, ◌+◌, ◌-◌, ◌<◌, Bool, true, false, cond, ◌&&◌, List, [], ◌∷◌, Some, None, Option, ◌==◌, nat_eq, nat_lt, slice_index, slice_index_or, slice_set, refl}
-use Rattle.std.proofs.Common.{sym, ap, ◌∙◌, add-zero, arith, get_or-set_other, ltb-true, ltb-false}
+use Rattle.std.specs.Prelude.{◌≡◌, ℕ, zero, suc, ◌+◌, ◌<◌, Bool, true, false, cond, ◌&&◌, List, [], ◌∷◌, Some, Option, ◌==◌, nat_eq, nat_lt, slice_index, slice_index_or, slice_set, refl}
+use Rattle.std.proofs.Common.{sym, ap, ◌∙◌, add-zero, arith, get_or-set_other, ltb-true}
 use Rattle.std.proofs.lemmas.Bool.{and_parts, and_right, eqb-false}
-use Rattle.device.specs.declared.answer.Asking.{Asking}
-use Rattle.device.specs.declared.answer.Asking.TheVariants.{Nothing, Bring, Take}
 use Rattle.device.specs.Calls.{how_many}
 use Rattle.device.specs.Laws.{Keeps, Lawful}
-use Rattle.device.proofs.Keeping.{Parts, ChannelParts, lawful_by, channel_lawful_by, keeps_same, keeps_then, keeps_if}
+use Rattle.device.proofs.Keeping.{Parts, ChannelParts, lawful_by, channel_lawful_by, keeps_same, keeps_then}
 use Rattle.terminal.specs.Setups.{area_fits}
-use Rattle.terminal.specs.Terminals.{Own, terminal, terminal_channel, answers, area_of, operates, line_on, with_line, with_wait, with_operating, ready, obeyed, passed, reset, used, finished}
+use Rattle.terminal.specs.Terminals.{Own, terminal, terminal_channel, answers, area_of, operates, line_on, with_line, with_wait, with_operating, reset, used, finished}
 
 -- another place keeps its number, and a number that is cleared is 0
 pub other : (c : List ℕ) (j k v : ℕ) → (j == k) ≡ false → slice_index (slice_set c k v) j ≡ slice_index c j

@@ -1,6 +1,6 @@
 -- A terminal: what a scanner and a recorder have in common. It has an area, a gap, whether it operates, a wait in cycles, and
 -- an interrupt line. These are the first five numbers of control; what comes behind them is the make's own.
-use Rattle.std.specs.Prelude.{ℕ, ◌+◌, ◌-◌, ◌*◌, ◌%◌, Bool, true, false, cond, not, ◌&&◌, List, [], ◌∷◌, Option, ◌==◌, slice_index, slice_set}
+use Rattle.std.specs.Prelude.{ℕ, ◌+◌, ◌-◌, ◌*◌, Bool, true, false, cond, ◌&&◌, List, ◌∷◌, Option, ◌==◌, slice_index, slice_set}
 use Rattle.device.specs.declared.answer.Asking.{Asking}
 use Rattle.device.specs.declared.answer.Asking.TheVariants.{Nothing}
 use Rattle.device.specs.Meaning.{Meaning, ChannelMeaning}

@@ -1,5 +1,5 @@
 -- A channel's wish: at a head, and at the word that names the next, always; in data, as the device asks.
-use Rattle.std.specs.Prelude.{ℕ, Bool, true, false}
+use Rattle.std.specs.Prelude.{Bool, true, false}
 use Rattle.device.specs.declared.answer.Asking.{Asking}
 use Rattle.device.specs.declared.answer.Asking.TheVariants.{Nothing, Bring, Take}
 use Rattle.works.specs.declared.channel.Channel.{Channel}

@@ -1,5 +1,5 @@
 -- Faults. A cause has its number here, and nowhere else; these numbers are apart from those of refusals.
-use Rattle.std.specs.Prelude.{ℕ, cond, Ok, Err, Result}
+use Rattle.std.specs.Prelude.{ℕ, Ok, Err, Result}
 use Rattle.device.specs.declared.answer.DeviceFault.{DeviceFault}
 use Rattle.device.specs.declared.answer.DeviceFault.TheVariants.{NotTaken, Busy}
 use Rattle.works.specs.declared.fault.Cause.{Cause}

@@ -18,16 +18,16 @@ returns g c =
     let u = c.args.core.now in
     let s = v c.args.self.now u in
     let p = c.args.self.now.processor in
-    let x = c.read_word.new.self in
-    let t = v x c.read_word.new.core in
-    let w = c.read_word.result in
+    let x = c.read-word.new.self in
+    let t = v x c.read-word.new.core in
+    let w = c.read-word.result in
     let after = λ (z : Service). work (λ k. with_run Running (with_service z k)) s in
     record {
       goes = ap₂ (λ (z : Service) (a : ℕ). (perform m (read a (λ (y : ℕ). branch_store (length u) y p.works.registers)) (after z)).machine) (sym c.begin.ensures) (sym c.vector.ensures)
-          ∙ c.read_word.ensures.goes (λ (y : ℕ). branch_store (length u) y p.works.registers)
-          ∙ ap₂ (λ (n : ℕ) (r : Registers). (perform m (branch_store n w r) t).machine) (sym c.read_word.ensures.long) (sym c.read_word.ensures.keeps.registers)
+          ∙ c.read-word.ensures.goes (λ (y : ℕ). branch_store (length u) y p.works.registers)
+          ∙ ap₂ (λ (n : ℕ) (r : Registers). (perform m (branch_store n w r) t).machine) (sym c.read-word.ensures.long) (sym c.read-word.ensures.keeps.registers)
           ∙ c.link.ensures.goes;
-      long = c.link.ensures.long ∙ c.read_word.ensures.long;
-      books = c.link.ensures.books ∙ c.read_word.ensures.keeps.books;
-      grows = let a = c.link.ensures.grows in let b = c.read_word.ensures.keeps.grows in omega arith;
+      long = c.link.ensures.long ∙ c.read-word.ensures.long;
+      books = c.link.ensures.books ∙ c.read-word.ensures.keeps.books;
+      grows = let a = c.link.ensures.grows in let b = c.read-word.ensures.keeps.grows in omega arith;
     }

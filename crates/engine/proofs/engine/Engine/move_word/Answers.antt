@@ -15,9 +15,9 @@ returns-then-control-eq1 g c =
     let e = c.put.ensures.processor in
     record {
       goes = ap (λ (b : Bool). (perform m (cond b written other) s).machine) (eq-eqb k.function 1 c.if-control-eq1.true)
-          ∙ c.read_word.ensures.goes (λ (w : ℕ). give p k.area w done)
-          ∙ sym (c.put.ensures.after c.read_word.new.core);
-      long = c.read_word.ensures.long;
-      books = ap (λ (q : Processor). q.books) e ∙ c.read_word.ensures.keeps.books;
-      grows = let z = ap spent e in let y = c.read_word.ensures.keeps.grows in omega arith;
+          ∙ c.read-word.ensures.goes (λ (w : ℕ). give p k.area w done)
+          ∙ sym (c.put.ensures.after c.read-word.new.core);
+      long = c.read-word.ensures.long;
+      books = ap (λ (q : Processor). q.books) e ∙ c.read-word.ensures.keeps.books;
+      grows = let z = ap spent e in let y = c.read-word.ensures.keeps.grows in omega arith;
     }

@@ -8,17 +8,17 @@ pub returns : goal.returns
 returns g c =
     let u = c.args.core.now in
     let p = c.args.self.now.processor in
-    let x = c.read_word.new.self in
+    let x = c.read-word.new.self in
     let t = c.advance.new.registers in
-    let keeps = c.read_word.ensures.keeps in
+    let keeps = c.read-word.ensures.keeps in
     let e = by_length (λ (n : ℕ). advanced n 1 x.processor.works.registers) t p x.processor u c.requires.fits keeps.books c.advance.ensures in
     let moved = e ∙ ap (advanced (length u) 1) keeps.registers in
     record {
-      goes = second_goes (makes g.A.Device g.B.Device g.C.Device g.D.Device) (length u) p.works.registers t c.read_word.result
+      goes = second_goes (makes g.A.Device g.B.Device g.C.Device g.D.Device) (length u) p.works.registers t c.read-word.result
           (view g.A.Device g.B.Device g.C.Device g.D.Device c.args.self.now u)
-          (view g.A.Device g.B.Device g.C.Device g.D.Device x c.read_word.new.core) c.read_word.ensures.goes e moved;
+          (view g.A.Device g.B.Device g.C.Device g.D.Device x c.read-word.new.core) c.read-word.ensures.goes e moved;
       moved = moved;
-      long = c.read_word.ensures.long;
+      long = c.read-word.ensures.long;
       books = keeps.books;
       grows = keeps.grows;
     }

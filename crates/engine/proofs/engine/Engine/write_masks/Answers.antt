@@ -8,24 +8,24 @@ use Rattle.engine.proofs.engine.Engine.write_masks.Goals as goal
 
 pub returns-then-high : goal.returns-then-high
 returns-then-high g c =
-    let t = view g.A.Device g.B.Device g.C.Device g.D.Device c.read_word.new.self c.read_word.new.core in
-    let r = c.read_word.result in
+    let t = view g.A.Device g.B.Device g.C.Device g.D.Device c.read-word.new.self c.read-word.new.core in
+    let r = c.read-word.result in
     record {
-      goes = c.read_word.ensures.goes (λ (x : ℕ). act (masks_set c.args.high x) done)
+      goes = c.read-word.ensures.goes (λ (x : ℕ). act (masks_set c.args.high x) done)
           ∙ ap (λ (b : Bool). work (masks_set b r) t) c.if-high.true ∙ ap (λ (k : Masks). work (with_masks k) t) (sym c.write_high.ensures);
-      long = c.read_word.ensures.long;
-      books = c.read_word.ensures.keeps.books;
-      grows = c.read_word.ensures.keeps.grows;
+      long = c.read-word.ensures.long;
+      books = c.read-word.ensures.keeps.books;
+      grows = c.read-word.ensures.keeps.grows;
     }
 
 pub returns-else-high : goal.returns-else-high
 returns-else-high g c =
-    let t = view g.A.Device g.B.Device g.C.Device g.D.Device c.read_word.new.self c.read_word.new.core in
-    let r = c.read_word.result in
+    let t = view g.A.Device g.B.Device g.C.Device g.D.Device c.read-word.new.self c.read-word.new.core in
+    let r = c.read-word.result in
     record {
-      goes = c.read_word.ensures.goes (λ (x : ℕ). act (masks_set c.args.high x) done)
+      goes = c.read-word.ensures.goes (λ (x : ℕ). act (masks_set c.args.high x) done)
           ∙ ap (λ (b : Bool). work (masks_set b r) t) c.if-high.false ∙ ap (λ (k : Masks). work (with_masks k) t) (sym c.write_low.ensures);
-      long = c.read_word.ensures.long;
-      books = c.read_word.ensures.keeps.books;
-      grows = c.read_word.ensures.keeps.grows;
+      long = c.read-word.ensures.long;
+      books = c.read-word.ensures.keeps.books;
+      grows = c.read-word.ensures.keeps.grows;
     }
