@@ -1,15 +1,14 @@
 -- Start and step, as the definition has them.
-use Rattle.std.proofs.Common.{◌≡◌, Bool, true, false, Ok, Err, Result, sym, refl, ap, ◌∙◌}
+use Rattle.std.proofs.Common.{◌≡◌, Bool, true, false, Result, sym, refl, ap, ◌∙◌}
 use Rattle.refusal.specs.declared.Refusal.{Refusal}
 use Rattle.refusal.specs.declared.Refusal.TheVariants.{Length, CycleLimit}
-use Rattle.works.specs.declared.panel.RunState.TheVariants.{Running}
 use Rattle.engine.specs.declared.state.Report.{Report}
-use Rattle.engine.specs.Machine.{Machine, with_run, work}
+use Rattle.engine.specs.Machine.{Machine}
 use Rattle.engine.specs.Makes.{Makes}
 use Rattle.engine.specs.Step.{lent_right, below_limit, step_answer, step_machine}
-use Rattle.controller.specs.declared.call.Answer.TheVariants.{Done as Accepted, Refused}
+use Rattle.controller.specs.declared.call.Answer.TheVariants.{Refused}
 use Rattle.controller.specs.declared.call.Call.{Call}
-use Rattle.controller.specs.declared.call.Call.TheVariants.{Start, Step}
+use Rattle.controller.specs.declared.call.Call.TheVariants.{Step}
 use Rattle.controller.specs.Console.{only_if, stepping, made_call, call}
 use Rattle.controller.specs.Held.{reported}
 

@@ -1,5 +1,5 @@
 -- The twelve calls, each with its refusals in order of their numbers. A refused call changes nothing. No call but a step makes a cycle.
-use Rattle.std.specs.Prelude.{ℕ, ◌+◌, Bool, true, false, cond, not, ◌&&◌, eqb, ltb, List, [], ◌∷◌, map, length}
+use Rattle.std.specs.Prelude.{ℕ, ◌+◌, Bool, true, false, cond, not, List, [], ◌∷◌, map, length}
 use Rattle.refusal.specs.declared.Refusal.{Refusal}
 use Rattle.refusal.specs.declared.Refusal.TheVariants.{Length, Wiring, NotStopped, Protected, CycleLimit}
 use Rattle.storage.specs.Word.{eighteen, data_of, is_protected, word_of}
@@ -13,7 +13,7 @@ use Rattle.works.specs.declared.panel.RunState.TheVariants.{Stopped, Running, Wa
 use Rattle.engine.specs.declared.state.Books.{Books}
 use Rattle.engine.specs.declared.state.Works.{Works}
 use Rattle.engine.specs.declared.state.Processor.{Processor}
-use Rattle.engine.specs.Machine.{words_of_size, Machine, place, word_in, with_processor, with_core, with_points, with_books, with_registers, with_run, work}
+use Rattle.engine.specs.Machine.{Machine, place, word_in, with_processor, with_core, with_points, with_books, with_registers, with_run, work}
 use Rattle.engine.specs.Events.{Event, read_from, stored_at, reset, Did, quiet, ◌then◌}
 use Rattle.engine.specs.Makes.{Makes, calling_all}
 use Rattle.engine.specs.declared.place.By.TheVariants.{Program}
@@ -28,7 +28,6 @@ use Rattle.controller.specs.declared.call.Call.{Call}
 use Rattle.controller.specs.declared.call.Call.TheVariants.{Step, Start, Stop, ImmediateStop, SetSwitches, Point, LoadI, Load, Display, Clear, Search, Count}
 use Rattle.controller.specs.declared.call.ClearMode.{ClearMode}
 use Rattle.controller.specs.declared.call.ClearMode.TheVariants.{Run as ClearRun, Display as ClearDisplay}
-use Rattle.engine.specs.declared.state.Report.{Report}
 use Rattle.controller.specs.Opening.{on_panel, opened_works, no_points}
 
 -- what a call comes to: the machine after it, what took place, and the answer

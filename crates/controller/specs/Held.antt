@@ -4,7 +4,6 @@ use Rattle.refusal.specs.declared.Refusal.{Refusal}
 use Rattle.device.specs.declared.interface.Device.{Ghosts}
 use Rattle.engine.specs.declared.state.Report.{Report}
 use Rattle.engine.specs.Machine.{Machine}
-use Rattle.engine.specs.Makes.{Makes}
 use Rattle.engine.specs.Code.{view, makes}
 use Rattle.controller.specs.declared.call.Answer.{Answer}
 use Rattle.controller.specs.declared.call.Answer.TheVariants.{Done as Accepted, Stepped, Refused}

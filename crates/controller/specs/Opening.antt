@@ -1,5 +1,5 @@
 -- Opening tests first; the making that follows always succeeds.
-use Rattle.std.specs.Prelude.{ℕ, Bool, true, false, cond, ◌&&◌, List, [], length, replicate, Ok, Err, Result, ◌==◌, nat_lt}
+use Rattle.std.specs.Prelude.{ℕ, Bool, true, false, cond, ◌&&◌, List, length, replicate, Ok, Err, Result, ◌==◌, nat_lt}
 use Rattle.refusal.specs.declared.Refusal.{Refusal}
 use Rattle.refusal.specs.declared.Refusal.TheVariants.{Length, Wiring as BadWiring}
 use Rattle.storage.specs.Memory.{core_size}

@@ -1,7 +1,7 @@
 -- Which of area 0's plans it is.
-use Rattle.std.proofs.Common.{◌≡◌, ℕ, Bool, true, false, cond, ◌&&◌, eqb, ltb, Option, sym, refl, ap, ◌∙◌, ap₂}
+use Rattle.std.proofs.Common.{◌≡◌, ℕ, Bool, true, false, cond, ◌&&◌, eqb, ltb, Option, sym, ap, ◌∙◌, ap₂}
 use Rattle.engine.specs.declared.control.ControlWord.{ControlWord}
-use Rattle.engine.specs.Plan.{Plan, drop, done, look, perform}
+use Rattle.engine.specs.Plan.{drop, done, look, perform}
 use Rattle.engine.specs.Xio.{asks_for, sense_switches, sense_interrupt, area_zero, answering, with_device, by_area}
 use Rattle.engine.specs.declared.place.Position.{Position}
 use Rattle.engine.specs.Machine.{Machine, dev_at}

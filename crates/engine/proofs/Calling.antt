@@ -1,5 +1,5 @@
 -- A device is called, by what the call ensures.
-use Rattle.std.proofs.Common.{◌≡◌, ℕ, List, sym, refl, ap, ◌∙◌, ap₂}
+use Rattle.std.proofs.Common.{◌≡◌, sym, ap, ◌∙◌}
 use Rattle.engine.specs.declared.place.Position.{Position}
 use Rattle.engine.specs.Machine.{Machine, Dev, dev_at, with_dev}
 use Rattle.engine.specs.Events.{Call}

@@ -1,15 +1,14 @@
 -- Cycles, from their parts.
-use Rattle.std.proofs.Common.{◌≡◌, ℕ, zero, suc, ◌+◌, ◌<◌, ◌≤◌, Bool, true, false, List, [], ◌∷◌, length, Some, None, Option, sym, refl, ap, ◌∙◌, subst, ap₂, arith}
+use Rattle.std.proofs.Common.{◌≡◌, ℕ, suc, ◌+◌, ◌<◌, ◌≤◌, Bool, List, length, Some, None, Option, sym, refl, ap, ◌∙◌, subst, arith}
 use Rattle.levels.specs.Choice.{Chosen}
 use Rattle.works.specs.declared.panel.Counts.{Counts}
 use Rattle.engine.specs.declared.place.By.TheVariants.{Program}
 use Rattle.engine.specs.declared.place.ChannelNumber.{ChannelNumber}
 use Rattle.engine.specs.declared.state.Processor.{Processor}
-use Rattle.engine.specs.Machine.{Machine, with_tally, with_processor}
-use Rattle.engine.specs.Events.{passed, ◌then◌}
+use Rattle.engine.specs.Machine.{Machine, with_tally}
+use Rattle.engine.specs.Events.{passed}
 use Rattle.engine.specs.Makes.{Makes, calling_all}
-use Rattle.engine.specs.Cycle.{Reference, reading, storing, marking, refer, data_in, one_program, one_stolen, one_idle, with_counts, counted, tell, transferring, finished, steal, chosen, channel_in, served, turns, offers, cycle, idle_cycle}
-use Rattle.engine.specs.Plan.{Plan, read, store, mark, rest, perform}
+use Rattle.engine.specs.Cycle.{Reference, refer, one_program, one_stolen, one_idle, with_counts, counted, tell, transferring, finished, steal, chosen, channel_in, served, turns, offers, cycle, idle_cycle}
 use Rattle.engine.specs.Code.{spent, Keeps, left_turns}
 
 -- a stolen cycle

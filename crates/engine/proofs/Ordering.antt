@@ -5,7 +5,6 @@ use Rattle.works.specs.declared.fault.Fault.{Fault}
 use Rattle.works.specs.Faults.{by_channel, recorded}
 use Rattle.engine.specs.declared.control.ControlWord.{ControlWord}
 use Rattle.engine.specs.declared.place.Position.{Position}
-use Rattle.engine.specs.declared.place.Position.TheVariants.{First, Second, Third, Fourth}
 use Rattle.engine.specs.Machine.{Machine, position_number}
 use Rattle.engine.specs.Makes.{Makes, make_at}
 use Rattle.engine.specs.Faults.{raise}

@@ -1,12 +1,12 @@
 -- A level that is due is one of those that have a status word.
-use Rattle.std.proofs.Common.{◌≡◌, ℕ, ◌+◌, ◌<◌, ◌≤◌, Bool, true, false, cond, not, ◌&&◌, eqb, List, [], ◌∷◌, length, Some, None, Option, sym, refl, ap, ◌∙◌, subst, true≢false, arith}
+use Rattle.std.proofs.Common.{◌≡◌, ℕ, ◌+◌, ◌<◌, ◌≤◌, Bool, true, false, cond, not, ◌&&◌, eqb, List, [], ◌∷◌, length, Some, None, Option, sym, refl, ap, true≢false, arith}
 use Rattle.levels.specs.declared.state.Flags.{Flags}
 use Rattle.levels.specs.declared.state.Interrupt.{Interrupt}
 use Rattle.levels.specs.declared.state.Interrupt.TheVariants.{Internal, Level}
 use Rattle.levels.specs.declared.state.LevelWish.{LevelWish}
 use Rattle.levels.specs.declared.state.Masks.{Masks}
 use Rattle.levels.specs.declared.state.Service.{Service}
-use Rattle.levels.specs.Choice.{behind, first_from, first_behind, Chosen}
+use Rattle.levels.specs.Choice.{behind, first_from, first_behind}
 use Rattle.levels.specs.Standing.{flag_word, standing}
 use Rattle.levels.specs.Interrupts.{the_level, due}
 use Rattle.levels.proofs.Walks.{chosen}

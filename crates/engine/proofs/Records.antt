@@ -1,5 +1,5 @@
 -- Records are equal where their fields are.
-use Rattle.std.proofs.Common.{◌≡◌, ℕ, List}
+use Rattle.std.proofs.Common.{◌≡◌}
 use Rattle.engine.specs.Machine.{Machine, Dev}
 
 pub dev_path : (d e : Dev) → d.control ≡ e.control → d.words ≡ e.words → d ≡ e

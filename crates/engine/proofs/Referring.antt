@@ -1,17 +1,16 @@
 -- A reference to core, from what the code did.
-use Rattle.std.proofs.Common.{◌≡◌, ℕ, ◌+◌, ◌%◌, ◌<◌, ◌≤◌, Bool, true, false, List, length, get_or, set, sym, refl, ap, ◌∙◌, subst, ap₂, arith}
+use Rattle.std.proofs.Common.{◌≡◌, ℕ, ◌%◌, ◌<◌, Bool, true, false, List, length, get_or, set, sym, refl, ap, ◌∙◌, subst, arith}
 use Rattle.storage.specs.Word.{data_of, is_protected, parity_right, word_of, stored}
 use Rattle.works.specs.declared.fault.Fault.{Fault}
 use Rattle.engine.specs.declared.place.By.{By}
-use Rattle.engine.specs.declared.state.CoreSize.{CoreSize}
 use Rattle.engine.specs.declared.state.Processor.{Processor}
 use Rattle.engine.specs.declared.state.Works.{Works}
 use Rattle.engine.specs.declared.place.ChannelNumber.{ChannelNumber}
 use Rattle.works.specs.declared.channel.Channel.{Channel}
-use Rattle.engine.specs.Machine.{Machine, with_core, with_processor, with_works, with_channel, words_of_size}
+use Rattle.engine.specs.Machine.{with_core, with_processor, with_works, with_channel, words_of_size}
 use Rattle.engine.specs.Faults.{fault_of, parity_cause, protect_cause, faulted, raise}
 use Rattle.engine.specs.Cycle.{reading, storing, marking, parity_checked, checked_store, marked, refer}
-use Rattle.engine.specs.Code.{Fits, spent, Refers, Keeps}
+use Rattle.engine.specs.Code.{Fits, Refers, Keeps}
 
 -- an address by the core's length is one by its size
 pub same_place : (p : Processor) (u : List ℕ) (a x : ℕ) → Fits p u → x ≡ a % words_of_size p.books.size → x ≡ a % length u

@@ -1,5 +1,5 @@
 -- A channel's work on its own processor, core and device, as the machine's.
-use Rattle.std.proofs.Common.{◌≡◌, ℕ, zero, suc, ◌+◌, ◌-◌, ◌%◌, Bool, true, false, ◌≢◌, List, length, get_or, sym, refl, ap, ◌∙◌, subst, ap₂}
+use Rattle.std.proofs.Common.{◌≡◌, ℕ, zero, suc, ◌+◌, ◌-◌, ◌%◌, Bool, true, false, ◌≢◌, List, length, get_or, sym, refl, ap, ◌∙◌, ap₂}
 use Rattle.storage.specs.Word.{data_of, is_protected}
 use Rattle.device.specs.declared.answer.Asking.{Asking}
 use Rattle.device.specs.declared.answer.Asking.TheVariants.{Nothing, Bring, Take}
@@ -16,8 +16,7 @@ use Rattle.engine.specs.declared.state.Processor.{Processor}
 use Rattle.engine.specs.Machine.{Machine, Dev, dev_at, position_of, word_in, place, with_core, with_processor, with_dev, with_works, with_channel, channel_at, work}
 use Rattle.engine.specs.Events.{bring, take, finish, stored_at, brought_to}
 use Rattle.engine.specs.Makes.{Makes, make_at, made, calling}
-use Rattle.engine.specs.Faults.{raise}
-use Rattle.engine.specs.Cycle.{reading, storing, bringing, checked_store, refer, data_in, at_head, moves, transfer, after_table, ending, finished, asking_of, transferring}
+use Rattle.engine.specs.Cycle.{reading, storing, bringing, checked_store, refer, at_head, moves, transfer, after_table, ending, finished, asking_of, transferring}
 use Rattle.engine.specs.Code.{Refers, at_channel, Serves}
 
 -- the device that was put there, and another in its place

@@ -1,12 +1,11 @@
 -- What the contracts of the code say, in terms of the definition.
-use Rattle.std.specs.Prelude.{◌≡◌, ℕ, ◌+◌, ◌<◌, ◌≤◌, List, length, Some, None, Option}
+use Rattle.std.specs.Prelude.{◌≡◌, ℕ, ◌+◌, ◌≤◌, List, length, Some, None, Option}
 use Rattle.device.specs.Meaning.{Meaning}
 use Rattle.device.specs.declared.interface.Device.{Ghosts}
 use Rattle.engine.specs.declared.engine.Engine.{Engine}
 use Rattle.engine.specs.declared.place.By.{By}
 use Rattle.engine.specs.declared.place.ChannelNumber.{ChannelNumber}
 use Rattle.engine.specs.declared.state.Processor.{Processor}
-use Rattle.engine.specs.declared.state.Tally.{Tally}
 use Rattle.engine.specs.Machine.{Machine, Dev, position_of, with_core, with_processor, with_dev, words_of_size}
 use Rattle.engine.specs.Events.{Did}
 use Rattle.engine.specs.Makes.{Makes, make_at}

@@ -1,5 +1,5 @@
 -- The levels of a machine: status words, what is due, and what a sense of interrupts answers.
-use Rattle.std.specs.Prelude.{ℕ, zero, suc, ◌+◌, ◌-◌, ◌^◌, Bool, true, false, cond, ◌&&◌, List, [], ◌∷◌, Some, None, Option, ◌==◌, bit_or}
+use Rattle.std.specs.Prelude.{ℕ, zero, suc, ◌+◌, ◌-◌, ◌^◌, false, cond, ◌&&◌, List, [], ◌∷◌, Some, None, Option, ◌==◌, bit_or}
 use Rattle.levels.specs.declared.state.Flags.{Flags}
 use Rattle.levels.specs.declared.state.Points.{Points}
 use Rattle.levels.specs.declared.state.Interrupt.{Interrupt}

@@ -1,6 +1,6 @@
 // Decoding. Bits are numbered from the left, from 0.
 ghost use Rattle.std.specs.Prelude.{◌≡◌, ◌%◌};
-ghost use Rattle.instruction.specs.Decoding.{by_code as the_operation, short_only, decoded, index_of as the_index, extended as the_extended, conditions_of as the_conditions, fields_of as TheFields};
+ghost use Rattle.instruction.specs.Decoding.{by_code as the_operation, short_only, decoded, index_of as the_index, extended as the_extended, conditions_of as the_conditions, fields_of as the_fields};
 
 use crate::words::{Conditions, Fields, Index, Operation};
 
@@ -85,7 +85,7 @@ fn conditions_of(word: u16) -> Conditions
 
 // The fields of an instruction's first word.
 pub fn fields(word: u16) -> Fields
-    ensures { result ≡ TheFields word }
+    ensures { result ≡ the_fields word }
 {
     Fields {
         long: word / 1_024 % 2 == 1,

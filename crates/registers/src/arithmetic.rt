@@ -56,7 +56,7 @@ fn product(a: u16, b: u16) -> u32
 }
 
 fn quotient_wide(n: i64, d: i64) -> (i64, i64)
-    requires { (mag n < 2147483648) × ((d ≢ pos 0)) }
+    requires { (mag n < 2147483648) × (d ≢ pos 0) }
     ensures { result ≡ (int_div n d, int_rem n d) }
 {
     (n / d, n % d)

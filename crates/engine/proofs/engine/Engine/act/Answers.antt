@@ -1,4 +1,4 @@
-use Rattle.std.proofs.Common.{◌≡◌, length, sym, refl, ap, ◌∙◌, arith}
+use Rattle.std.proofs.Common.{length, ap, ◌∙◌, arith}
 use Rattle.works.specs.declared.panel.RunState.{RunState}
 use Rattle.engine.specs.Levels.{due_now}
 use Rattle.engine.specs.Plan.{done, perform}

@@ -1,4 +1,4 @@
-use Rattle.std.proofs.Common.{◌≡◌, sym, refl, ap, ◌∙◌, arith}
+use Rattle.std.proofs.Common.{sym, refl, ap, ◌∙◌, arith}
 use Rattle.engine.specs.Plan.{Plan, perform}
 use Rattle.engine.specs.Code.{view, makes}
 use Rattle.engine.proofs.Areas.{zero_switches, zero_drop}

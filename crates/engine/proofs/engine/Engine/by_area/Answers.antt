@@ -1,4 +1,4 @@
-use Rattle.std.proofs.Common.{◌≡◌, length, Some, None, sym, refl, ap, ◌∙◌, arith, ne_eqb}
+use Rattle.std.proofs.Common.{length, Some, None, sym, refl, ◌∙◌, arith, ne_eqb}
 use Rattle.engine.specs.Code.{view, makes}
 use Rattle.engine.proofs.Areas.{area_device}
 use Rattle.engine.proofs.engine.Engine.by_area.Goals as goal

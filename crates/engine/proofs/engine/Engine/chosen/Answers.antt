@@ -1,4 +1,4 @@
-use Rattle.std.proofs.Common.{◌≡◌, ℕ, suc, ◌+◌, ◌&&◌, List, [], length, sym, refl, ap, ◌∙◌, subst, arith}
+use Rattle.std.proofs.Common.{◌&&◌, List, [], length, ap, ◌∙◌}
 use Rattle.works.specs.declared.channel.ChannelWish.{ChannelWish}
 use Rattle.levels.specs.Choice.{behind, first_behind}
 use Rattle.engine.proofs.Cycling.{few_chosen}

@@ -1,11 +1,10 @@
-use Rattle.std.proofs.Common.{◌≡◌, ℕ, suc, ◌+◌, List, [], sym, refl, ap, ◌∙◌, subst, arith}
+use Rattle.std.proofs.Common.{sym, ◌∙◌}
 use Rattle.engine.specs.declared.place.By.TheVariants.{Program}
-use Rattle.engine.specs.declared.state.Processor.{Processor}
-use Rattle.engine.specs.Machine.{Machine, with_core, with_processor}
+use Rattle.engine.specs.Machine.{with_core, with_processor}
 use Rattle.engine.specs.Cycle.{bringing}
-use Rattle.engine.specs.Code.{view, makes, Keeps}
+use Rattle.engine.specs.Code.{view, makes}
 use Rattle.engine.proofs.Serving.{bringing_stores}
-use Rattle.engine.proofs.Cycling.{cycle_by, keeps_program, keeps_nothing}
+use Rattle.engine.proofs.Cycling.{cycle_by, keeps_program}
 use Rattle.engine.proofs.engine.Engine.deposit.Goals as goal
 
 pub returns : goal.returns

@@ -1,4 +1,4 @@
-use Rattle.std.proofs.Common.{◌≡◌, ℕ, ◌<◌, List, [], length, sym, ap, ◌∙◌, subst}
+use Rattle.std.proofs.Common.{ℕ, ◌<◌, List, [], length, sym, ap, ◌∙◌, subst}
 use Rattle.levels.specs.Interrupts.{due}
 use Rattle.engine.specs.Levels.{due_now}
 use Rattle.engine.proofs.Ranging.{due_range}

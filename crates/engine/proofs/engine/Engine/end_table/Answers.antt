@@ -1,7 +1,7 @@
-use Rattle.std.proofs.Common.{◌≡◌, ℕ, suc, ◌+◌, List, sym, refl, ap, ◌∙◌, subst, arith}
+use Rattle.std.proofs.Common.{ℕ, List, sym, refl, ap, ◌∙◌}
 use Rattle.engine.specs.declared.place.ChannelNumber.{ChannelNumber}
 use Rattle.engine.specs.Cycle.{finished}
-use Rattle.engine.specs.Code.{view, makes, Does}
+use Rattle.engine.specs.Code.{view, makes}
 use Rattle.engine.proofs.engine.Engine.end_table.Goals as goal
 
 pub returns-in-Channel1 : goal.returns-in-Channel1

@@ -1,4 +1,4 @@
-use Rattle.std.proofs.Common.{◌≡◌, length, Option, sym, refl, ap, ◌∙◌, arith}
+use Rattle.std.proofs.Common.{length, Option, sym, refl, ap, ◌∙◌, arith}
 use Rattle.instruction.specs.declared.words.Operation.{Operation}
 use Rattle.works.specs.declared.fault.Fault.{Fault}
 use Rattle.engine.specs.declared.state.Processor.{Processor}

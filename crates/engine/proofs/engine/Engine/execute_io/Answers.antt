@@ -1,6 +1,4 @@
-use Rattle.std.proofs.Common.{◌≡◌, ℕ, ◌%◌, length, sym, ap, ◌∙◌, arith}
-use Rattle.engine.specs.declared.state.Books.{Books}
-use Rattle.engine.specs.Machine.{words_of_size}
+use Rattle.std.proofs.Common.{ℕ, ◌%◌, length, ◌∙◌, arith}
 use Rattle.engine.specs.Code.{view, makes}
 use Rattle.engine.proofs.Going.{xio_goes, by_length}
 use Rattle.engine.proofs.engine.Engine.execute_io.Goals as goal

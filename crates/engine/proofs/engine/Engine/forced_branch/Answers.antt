@@ -1,7 +1,6 @@
-use Rattle.std.proofs.Common.{◌≡◌, ℕ, true, length, sym, refl, ap, ◌∙◌, ap₂, arith}
+use Rattle.std.proofs.Common.{ℕ, length, sym, ◌∙◌, ap₂, arith}
 use Rattle.registers.specs.declared.state.Registers.{Registers}
 use Rattle.levels.specs.declared.state.Service.{Service}
-use Rattle.levels.specs.Interrupts.{with_service as serving}
 use Rattle.works.specs.declared.panel.RunState.TheVariants.{Running}
 use Rattle.engine.specs.Machine.{work, with_service, with_run}
 use Rattle.engine.specs.Plan.{read, perform}

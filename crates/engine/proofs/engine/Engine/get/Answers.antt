@@ -1,4 +1,4 @@
-use Rattle.std.proofs.Common.{◌≡◌, ℕ, List, sym, refl, ap, ◌∙◌}
+use Rattle.std.proofs.Common.{ℕ, List, sym, refl, ap, ◌∙◌}
 use Rattle.engine.specs.declared.place.Position.{Position}
 use Rattle.engine.specs.declared.place.Position.TheVariants.{First, Second, Third, Fourth}
 use Rattle.engine.specs.Code.{view, makes, dev}

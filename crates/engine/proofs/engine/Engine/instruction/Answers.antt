@@ -1,4 +1,4 @@
-use Rattle.std.proofs.Common.{◌≡◌, ℕ, ◌%◌, length, sym, refl, ap, ◌∙◌, arith}
+use Rattle.std.proofs.Common.{ℕ, ◌%◌, length, sym, refl, ap, ◌∙◌, arith}
 use Rattle.registers.specs.declared.state.Registers.{Registers}
 use Rattle.instruction.specs.Decoding.{decoded}
 use Rattle.engine.specs.Plan.{perform}

@@ -1,4 +1,4 @@
-use Rattle.std.proofs.Common.{◌≡◌, ℕ, ap, ◌∙◌}
+use Rattle.std.proofs.Common.{ℕ, ap, ◌∙◌}
 use Rattle.levels.specs.Standing.{status}
 use Rattle.engine.specs.Levels.{level_status}
 use Rattle.engine.proofs.engine.Engine.level_status.Goals as goal

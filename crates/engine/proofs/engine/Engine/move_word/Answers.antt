@@ -1,6 +1,6 @@
-use Rattle.std.proofs.Common.{◌≡◌, ℕ, Bool, cond, eqb, sym, refl, ap, ◌∙◌, arith, eq-eqb}
+use Rattle.std.proofs.Common.{ℕ, Bool, cond, eqb, sym, ap, ◌∙◌, arith, eq-eqb}
 use Rattle.engine.specs.declared.state.Processor.{Processor}
-use Rattle.engine.specs.Plan.{Plan, read, give, fetch, done, perform}
+use Rattle.engine.specs.Plan.{read, give, fetch, done, perform}
 use Rattle.engine.specs.Code.{view, makes, spent}
 use Rattle.engine.proofs.engine.Engine.move_word.Goals as goal
 

@@ -1,4 +1,4 @@
-use Rattle.std.proofs.Common.{◌≡◌, List, sym, refl, ap, ◌∙◌, arith}
+use Rattle.std.proofs.Common.{sym, ap, ◌∙◌, arith}
 use Rattle.works.specs.declared.fault.Fault.{Fault}
 use Rattle.engine.specs.declared.state.Processor.{Processor}
 use Rattle.engine.specs.Machine.{with_processor}

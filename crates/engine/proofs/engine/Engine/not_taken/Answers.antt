@@ -1,4 +1,4 @@
-use Rattle.std.proofs.Common.{◌≡◌, ℕ, sym, refl, ap, ◌∙◌, arith}
+use Rattle.std.proofs.Common.{ℕ, sym, ap, ◌∙◌, arith}
 use Rattle.device.specs.declared.answer.DeviceFault.TheVariants.{NotTaken}
 use Rattle.works.specs.declared.fault.Cause.TheVariants.{Channel}
 use Rattle.works.specs.declared.fault.ChannelFault.TheVariants.{Refused}

@@ -1,4 +1,4 @@
-use Rattle.std.proofs.Common.{◌≡◌, ℕ, suc, ◌+◌, List, [], sym, refl, ap, ◌∙◌, subst, arith}
+use Rattle.std.proofs.Common.{◌∙◌, arith}
 use Rattle.engine.specs.Code.{view, makes}
 use Rattle.engine.proofs.Cycling.{offers_none, offers_one, offers_two, keeps_wider, keeps_more}
 use Rattle.engine.proofs.engine.Engine.offers.Goals as goal

@@ -1,11 +1,9 @@
-use Rattle.std.proofs.Common.{◌≡◌, ℕ, suc, ◌+◌, List, [], sym, refl, ap, ◌∙◌, subst, arith}
-use Rattle.engine.specs.declared.place.By.TheVariants.{Program}
-use Rattle.engine.specs.declared.state.Processor.{Processor}
+use Rattle.std.proofs.Common.{ℕ, sym, ap, ◌∙◌}
 use Rattle.engine.specs.Machine.{Machine, with_core, with_processor}
-use Rattle.engine.specs.Cycle.{reading, storing, marking, data_in}
-use Rattle.engine.specs.Plan.{Plan, perform}
-use Rattle.engine.specs.Code.{view, makes, Keeps}
-use Rattle.engine.proofs.Cycling.{cycle_by, keeps_program, keeps_nothing}
+use Rattle.engine.specs.Cycle.{reading, data_in}
+use Rattle.engine.specs.Plan.{perform}
+use Rattle.engine.specs.Code.{view, makes}
+use Rattle.engine.proofs.Cycling.{cycle_by, keeps_program}
 use Rattle.engine.proofs.engine.Engine.read.Goals as goal
 
 pub returns : goal.returns

@@ -1,4 +1,4 @@
-use Rattle.std.proofs.Common.{◌≡◌, ℕ, ◌*◌, sym, refl, ap, ◌∙◌, arith}
+use Rattle.std.proofs.Common.{ℕ, sym, ap, ◌∙◌}
 use Rattle.engine.specs.Plan.{store, done, perform}
 use Rattle.engine.specs.Code.{view, makes}
 use Rattle.engine.proofs.engine.Engine.read_switches.Goals as goal

@@ -1,6 +1,6 @@
-use Rattle.std.proofs.Common.{◌≡◌, ℕ, suc, ◌+◌, List, [], sym, refl, ap, ◌∙◌, subst, arith}
+use Rattle.std.proofs.Common.{sym, ap}
 use Rattle.engine.specs.Machine.{Machine}
-use Rattle.engine.specs.Plan.{Plan, perform}
+use Rattle.engine.specs.Plan.{perform}
 use Rattle.engine.specs.Code.{view, makes}
 use Rattle.engine.proofs.Cycling.{idle_by, keeps_idle}
 use Rattle.engine.proofs.engine.Engine.rest.Goals as goal

@@ -1,4 +1,4 @@
-use Rattle.std.proofs.Common.{◌≡◌, ℕ, List, Option, sym, refl, ap, ◌∙◌}
+use Rattle.std.proofs.Common.{ℕ, List, Option, sym, ap, ◌∙◌}
 use Rattle.levels.specs.declared.state.Interrupt.{Interrupt}
 use Rattle.engine.specs.Levels.{status_of, sensed_status}
 use Rattle.engine.specs.Code.{view, makes}

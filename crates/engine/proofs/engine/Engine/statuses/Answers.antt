@@ -1,4 +1,4 @@
-use Rattle.std.proofs.Common.{◌≡◌, ℕ, List, sym, refl, ap, ◌∙◌, arith, length-set}
+use Rattle.std.proofs.Common.{ℕ, List, ◌∙◌, arith, length-set}
 use Rattle.engine.specs.Code.{view, makes}
 use Rattle.engine.proofs.Filling.{status_more, status_end}
 use Rattle.engine.proofs.engine.Engine.statuses.Goals as goal

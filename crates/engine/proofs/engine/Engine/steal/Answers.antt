@@ -1,8 +1,6 @@
-use Rattle.std.proofs.Common.{◌≡◌, ℕ, suc, ◌+◌, List, sym, refl, ap, ◌∙◌, subst, arith}
-use Rattle.engine.specs.declared.state.Processor.{Processor}
-use Rattle.engine.specs.Machine.{Machine}
-use Rattle.engine.specs.Code.{view, makes, Keeps}
-use Rattle.engine.proofs.Cycling.{steal_by, keeps_more, keeps_stolen}
+use Rattle.std.proofs.Common.{◌∙◌}
+use Rattle.engine.specs.Code.{view, makes}
+use Rattle.engine.proofs.Cycling.{steal_by, keeps_stolen}
 use Rattle.engine.proofs.engine.Engine.steal.Goals as goal
 
 pub returns : goal.returns

@@ -1,4 +1,4 @@
-use Rattle.std.proofs.Common.{◌≡◌, sym, refl, ap, ◌∙◌}
+use Rattle.std.proofs.Common.{ap, ◌∙◌}
 use Rattle.engine.specs.declared.state.Processor.{Processor}
 use Rattle.engine.specs.Machine.{with_processor}
 use Rattle.engine.specs.Code.{view, makes}

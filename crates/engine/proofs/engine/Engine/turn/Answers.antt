@@ -1,4 +1,4 @@
-use Rattle.std.proofs.Common.{◌≡◌, ℕ, suc, ◌+◌, List, [], sym, refl, ap, ◌∙◌, subst, arith}
+use Rattle.std.proofs.Common.{sym, refl, ◌∙◌}
 use Rattle.engine.specs.Code.{view, makes}
 use Rattle.engine.proofs.Cycling.{turn_none, turn_some, keeps_nothing}
 use Rattle.engine.proofs.engine.Engine.turn.Goals as goal

@@ -1,4 +1,4 @@
-use Rattle.std.proofs.Common.{◌≡◌, length, Option, sym, refl, ap, ◌∙◌, arith}
+use Rattle.std.proofs.Common.{length, Option, ap, ◌∙◌, arith}
 use Rattle.levels.specs.declared.state.Interrupt.{Interrupt}
 use Rattle.works.specs.declared.panel.RunState.TheVariants.{Waiting}
 use Rattle.engine.specs.Plan.{done, perform}

@@ -1,9 +1,9 @@
-use Rattle.std.proofs.Common.{◌≡◌, ℕ, Bool, List, sym, refl, ap, ◌∙◌, arith}
+use Rattle.std.proofs.Common.{ℕ, Bool, sym, ap, ◌∙◌}
 use Rattle.levels.specs.declared.state.Masks.{Masks}
 use Rattle.engine.specs.Machine.{work, with_masks}
 use Rattle.engine.specs.Plan.{act, done}
 use Rattle.engine.specs.Xio.{masks_set}
-use Rattle.engine.specs.Code.{view, makes}
+use Rattle.engine.specs.Code.{view}
 use Rattle.engine.proofs.engine.Engine.write_masks.Goals as goal
 
 pub returns-then-high : goal.returns-then-high

@@ -1,4 +1,4 @@
-use Rattle.std.proofs.Common.{◌≡◌, length, sym, refl, ap, ◌∙◌}
+use Rattle.std.proofs.Common.{length, sym, ap, ◌∙◌}
 use Rattle.engine.specs.declared.control.ControlWord.{ControlWord}
 use Rattle.engine.specs.Plan.{perform}
 use Rattle.engine.specs.Xio.{by_area, xio}

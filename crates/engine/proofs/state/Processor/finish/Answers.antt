@@ -1,4 +1,4 @@
-use Rattle.std.proofs.Common.{◌≡◌, sym, refl, ap, ◌∙◌, subst, arith}
+use Rattle.std.proofs.Common.{sym, refl, ap, ◌∙◌, subst, arith}
 use Rattle.works.specs.declared.channel.Channel.TheVariants.{Data}
 use Rattle.engine.specs.declared.state.Works.{Works}
 use Rattle.engine.specs.Machine.{with_works}

@@ -1,4 +1,4 @@
-use Rattle.std.proofs.Common.{◌≡◌, ℕ, sym, refl, ap, ◌∙◌, ap₂}
+use Rattle.std.proofs.Common.{ℕ, sym, refl, ◌∙◌, ap₂}
 use Rattle.engine.specs.declared.place.By.TheVariants.{Device}
 use Rattle.engine.specs.declared.place.Position.{Position}
 use Rattle.engine.specs.Code.{dev}

@@ -1,4 +1,4 @@
-use Rattle.std.proofs.Common.{◌≡◌, ℕ, ◌%◌, length, get_or, sym, ap, ◌∙◌}
+use Rattle.std.proofs.Common.{ℕ, get_or, sym, ap, ◌∙◌}
 use Rattle.storage.specs.Word.{data_of}
 use Rattle.engine.specs.Faults.{fault_of, parity_cause, faulted}
 use Rattle.engine.proofs.Referring.{same_place, keeps_same, keeps_fault, read_right, read_wrong}

@@ -1,4 +1,4 @@
-use Rattle.std.proofs.Common.{◌≡◌, ℕ, ◌%◌, length, get_or, sym, refl, ap, ◌∙◌, arith, length-set}
+use Rattle.std.proofs.Common.{ℕ, sym, refl, ap, ◌∙◌, length-set}
 use Rattle.engine.specs.Faults.{fault_of, protect_cause, faulted}
 use Rattle.engine.proofs.Referring.{same_place, keeps_same, keeps_fault, store_kept, store_dropped}
 use Rattle.engine.proofs.state.Processor.store_word.Goals as goal

@@ -1,4 +1,4 @@
-use Rattle.std.proofs.Common.{◌≡◌, ℕ, ◌+◌, ◌-◌, ◌%◌, length, sym, refl, ap, ◌∙◌, subst, ap₂}
+use Rattle.std.proofs.Common.{ℕ, ◌+◌, ◌%◌, sym, refl, ap, ◌∙◌, ap₂}
 use Rattle.works.specs.declared.channel.Channel.TheVariants.{Head, Data}
 use Rattle.engine.specs.declared.place.By.TheVariants.{Device}
 use Rattle.engine.specs.declared.place.Position.{Position}
