@@ -1,12 +1,10 @@
 -- Worked decks: small programs run by the definition, and what was settled that they show.
-use Rattle.std.specs.Prelude.{ℕ, ◌+◌, ◌-◌, Bool, true, false, List, [], ◌∷◌, ◌++◌, map, length, replicate}
+use Rattle.std.specs.Prelude.{ℕ, ◌-◌, false, List, [], ◌∷◌, ◌++◌, map, length, replicate}
 use Rattle.std.specs.List.{AllByRecursion as All}
 use Rattle.storage.specs.Word.{word_of}
 use Rattle.terminal.specs.declared.state.Terminal.{Terminal}
 use Rattle.scanner.specs.Scanners.{scanner, scanner_control}
 use Rattle.recorder.specs.Recorders.{recorder, recorder_control}
-use Rattle.works.specs.declared.panel.Counts.{Counts}
-use Rattle.engine.specs.declared.state.Wire.{Wire}
 use Rattle.engine.specs.declared.state.Wiring.{Wiring}
 use Rattle.engine.specs.Machine.{Machine, Dev}
 use Rattle.engine.specs.Makes.{Makes}

@@ -1,19 +1,16 @@
 -- What counts answer and steps report; and what no call changes: the core's length, the size, whether opening was accepted.
-use Rattle.std.proofs.Common.{◌≡◌, ℕ, ◌+◌, ◌*◌, ◌≤◌, Bool, true, false, cond, ◌&&◌, eqb, ◌≢◌, ◌⊎◌, List, [], ◌∷◌, ◌++◌, length, Ok, Err, Result, sym, refl, ap, ◌∙◌, subst, ap₂, inl, inr, ⊎_elim, true≢false, append_assoc, append-nil, arith, eq-eqb, eqb-true}
+use Rattle.std.proofs.Common.{◌≡◌, ℕ, Bool, true, false, cond, ◌&&◌, eqb, List, [], ◌∷◌, ◌++◌, length, Ok, Err, Result, sym, refl, ap, ◌∙◌, ap₂, true≢false, append_assoc, append-nil}
 use lib.ListN.{length-map}
-use Rattle.std.proofs.lemmas.Bool.{cases_Bool}
 use Rattle.refusal.specs.declared.Refusal.{Refusal}
 use Rattle.refusal.specs.declared.Refusal.TheVariants.{Length, Wiring as BadWiring}
 use Rattle.storage.specs.Memory.{core_size}
-use Rattle.works.specs.declared.panel.Counts.{Counts}
 use Rattle.engine.specs.declared.place.Position.{Position}
 use Rattle.engine.specs.declared.state.Books.{Books}
 use Rattle.engine.specs.declared.state.Wiring.{Wiring}
 use Rattle.engine.specs.Machine.{Machine, Dev, words_of_size, with_processor}
 use Rattle.engine.specs.Events.{Event, reset}
-use Rattle.engine.specs.Makes.{Makes, calling_all}
-use Rattle.engine.specs.Step.{step_plan, begun, step}
-use Rattle.engine.specs.Cycle.{storing, refer}
+use Rattle.engine.specs.Makes.{Makes}
+use Rattle.engine.specs.Cycle.{storing}
 use Rattle.engine.specs.declared.place.By.TheVariants.{Program}
 use Rattle.controller.specs.declared.call.Answer.{Answer}
 use Rattle.controller.specs.declared.call.Answer.TheVariants.{Done as Accepted, Stepped, Displayed, Found, Counted, Refused}
@@ -26,12 +23,11 @@ use Rattle.controller.specs.declared.call.Lent.{Lent}
 use Rattle.controller.specs.declared.call.Lent.TheVariants.{Opened, Other}
 use Rattle.engine.specs.declared.state.Report.{Report}
 use Rattle.controller.specs.Opening.{all_wired, opening, is_accepted, size_of, opened_machine}
-use Rattle.controller.specs.Console.{Done, accepted, refuse, only_if, told, at_rest, bill_of, data_switches, i_of, cleared, unprotected, clearing, made_call, lent_right, call}
+use Rattle.controller.specs.Console.{Done, refuse, only_if, told, at_rest, bill_of, data_switches, i_of, cleared, unprotected, clearing, made_call, lent_right, call}
 use Rattle.controller.specs.Run.{lending, enter, run, after, events_of}
 use Rattle.promises.specs.Bill.{tellings, totals_of, unbilled, since_count}
 use Rattle.promises.specs.Protection.{at_yes}
-use Rattle.promises.proofs.Firm.{perform_firm, refer_firm}
-use Rattle.promises.proofs.Billing.{tally_of, perform_tallied}
+use Rattle.promises.proofs.Firm.{refer_firm}
 use Rattle.promises.proofs.Touching.{all_core, refer_core, step_core}
 use Rattle.promises.proofs.Steps.{step_tally, step_books, all_books}
 use Rattle.promises.proofs.Calls.{CallLaw, call_law}

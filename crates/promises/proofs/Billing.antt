@@ -1,5 +1,5 @@
 -- Every cycle is told once to each device and counted once, and at most three are stolen before each other one.
-use Rattle.std.proofs.Common.{◌≡◌, ℕ, zero, suc, ◌+◌, ◌*◌, ◌≤◌, Bool, true, false, List, [], ◌∷◌, ◌++◌, Some, None, Option, sym, refl, ap, ◌∙◌, subst, add-one, arith}
+use Rattle.std.proofs.Common.{◌≡◌, ℕ, zero, suc, ◌+◌, ◌*◌, ◌≤◌, Bool, true, false, List, [], ◌∷◌, ◌++◌, Some, None, Option, refl, ap, ◌∙◌, add-one, arith}
 use Rattle.storage.specs.Word.{is_protected, parity_right}
 use Rattle.works.specs.declared.fault.Fault.{Fault}
 use Rattle.works.specs.declared.panel.Counts.{Counts}
@@ -9,15 +9,15 @@ use Rattle.engine.specs.declared.place.Position.{Position}
 use Rattle.engine.specs.declared.place.Position.TheVariants.{First, Second, Third, Fourth}
 use Rattle.engine.specs.declared.place.ChannelNumber.{ChannelNumber}
 use Rattle.engine.specs.Machine.{Machine, word_in, place, upon, work}
-use Rattle.engine.specs.Events.{Event, Call, passed, command, sense, put, get, bring, take, finish, reset, stored_at, brought_to, Did, ◌then◌}
+use Rattle.engine.specs.Events.{Event, Call, passed, command, sense, put, get, bring, take, finish, reset, stored_at, brought_to, Did}
 use Rattle.engine.specs.Makes.{Makes, calling, calling_all}
 use Rattle.engine.specs.Faults.{fault_of, parity_cause, protect_cause, raise}
-use Rattle.engine.specs.Cycle.{Reference, reading, storing, bringing, marking, refer, parity_checked, checked_store, marked, one_program, one_stolen, one_idle, tell, counted, transfer, channel_of, asking_of, finished, steal, chosen, channel_in, served, turns, offers, cycle, idle_cycle}
+use Rattle.engine.specs.Cycle.{Reference, reading, storing, bringing, marking, refer, parity_checked, checked_store, marked, one_program, one_stolen, one_idle, tell, counted, transfer, channel_of, asking_of, steal, chosen, channel_in, served, turns, offers, cycle, idle_cycle}
 use Rattle.engine.specs.Levels.{drop_points}
 use Rattle.engine.specs.Plan.{Plan, perform}
 use Rattle.controller.specs.Console.{told}
 use Rattle.promises.specs.Bill.{passes, telling, tellings}
-use Rattle.promises.proofs.Laws.{PartLaw, Law, CycleLaw, Other, AddsOne, transferred, ended, cycle_law, perform_law}
+use Rattle.promises.proofs.Laws.{PartLaw, Law, CycleLaw, Other, transferred, ended, cycle_law, perform_law}
 
 abbrev pub tally_of : Machine → Counts
 tally_of s = s.processor.tally.counts

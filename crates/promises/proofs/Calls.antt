@@ -1,7 +1,7 @@
 -- The calls of one machine: each call's devices, protected words and totals.
-use Rattle.std.proofs.Common.{◌≡◌, ℕ, ◌+◌, ◌*◌, ◌<◌, ◌≤◌, Bool, true, false, cond, not, ◌&&◌, ltb, ◌⊎◌, List, [], ◌∷◌, ◌++◌, map, length, get_or, sym, refl, ap, ◌∙◌, subst, ap₂, inl, inr, true≢false, append-nil, arith}
+use Rattle.std.proofs.Common.{◌≡◌, ℕ, ◌+◌, ◌<◌, ◌≤◌, Bool, true, false, cond, not, ◌⊎◌, List, [], ◌∷◌, ◌++◌, map, length, get_or, sym, refl, ap, ◌∙◌, subst, inl, inr, true≢false, arith}
 use lib.ListN.{get_or-eq_default}
-use Rattle.std.proofs.lemmas.List.{get_or-map, length-map}
+use Rattle.std.proofs.lemmas.List.{get_or-map}
 use Rattle.std.proofs.lemmas.Bool.{cases_lt}
 use Rattle.refusal.specs.declared.Refusal.{Refusal}
 use Rattle.refusal.specs.declared.Refusal.TheVariants.{Length, Wiring, NotStopped, Protected, CycleLimit}
@@ -10,22 +10,20 @@ use Rattle.storage.specs.Word.{data_of, is_protected, word_of}
 use Rattle.works.specs.declared.panel.Switches.{Switches}
 use Rattle.works.specs.declared.panel.RunState.{RunState}
 use Rattle.works.specs.declared.panel.RunState.TheVariants.{Stopped, Running}
-use Rattle.engine.specs.declared.place.By.{By}
 use Rattle.engine.specs.declared.place.By.TheVariants.{Program}
 use Rattle.engine.specs.declared.place.Position.{Position}
 use Rattle.engine.specs.declared.place.Position.TheVariants.{First, Second, Third, Fourth}
-use Rattle.engine.specs.Machine.{Machine, Dev, dev_at, word_in, place, with_processor, with_core, with_run, work}
-use Rattle.engine.specs.Events.{Event, read_from, stored_at, reset, Did, quiet, ◌then◌}
+use Rattle.engine.specs.Machine.{Machine, Dev, dev_at, word_in, with_processor, with_run, work}
+use Rattle.engine.specs.Events.{Event, stored_at, reset, quiet}
 use Rattle.engine.specs.Makes.{Makes, make_at, calling, calling_all}
-use Rattle.engine.specs.Cycle.{Reference, storing, refer}
+use Rattle.engine.specs.Cycle.{storing, refer}
 use Rattle.engine.specs.Step.{step}
-use Rattle.controller.specs.declared.call.Answer.{Answer}
 use Rattle.controller.specs.declared.call.Call.{Call}
 use Rattle.controller.specs.declared.call.Call.TheVariants.{Step, Start, Stop, ImmediateStop, SetSwitches, Point, LoadI, Load, Display, Clear, Search, Count}
 use Rattle.controller.specs.declared.call.ClearMode.{ClearMode}
 use Rattle.controller.specs.declared.call.ClearMode.TheVariants.{Run as ClearRun, Display as ClearDisplay}
 use Rattle.controller.specs.Opening.{on_panel}
-use Rattle.controller.specs.Console.{Done, accepted, refuse, only_if, told, below_limit, stepping, at_rest, stopping, switching, latching, is_stopped, when_stopped, loading_i, i_of, next_i, loading, displaying, data_switches, is_cleared, cleared, unprotected, swept, clearing, searching, counting, made_call, lent_right, call}
+use Rattle.controller.specs.Console.{Done, accepted, refuse, only_if, told, below_limit, stepping, at_rest, stopping, switching, latching, is_stopped, loading_i, i_of, next_i, loading, displaying, data_switches, is_cleared, cleared, unprotected, swept, clearing, searching, counting, made_call, lent_right, call}
 use Rattle.promises.specs.Ties.{after_events, Tied}
 use Rattle.promises.specs.Bill.{tellings, Fair, totals_of, unbilled}
 use Rattle.promises.specs.Protection.{Stands, at_yes}

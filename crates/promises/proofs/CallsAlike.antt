@@ -1,34 +1,31 @@
 -- The calls, made on two machines that are alike.
-use Rattle.std.proofs.Common.{◌≡◌, ℕ, ◌+◌, Bool, true, false, not, ◌&&◌, eqb, ltb, List, [], ◌∷◌, ◌++◌, map, length, sym, refl, ap, ◌∙◌, subst, ap₂}
+use Rattle.std.proofs.Common.{◌≡◌, ℕ, Bool, true, false, not, ◌&&◌, eqb, ltb, [], ◌∷◌, map, refl, ap, ◌∙◌, subst, ap₂}
 use Rattle.refusal.specs.declared.Refusal.{Refusal}
 use Rattle.refusal.specs.declared.Refusal.TheVariants.{Length, Wiring, NotStopped, Protected, CycleLimit}
 use Rattle.registers.specs.declared.state.Registers.{Registers}
 use Rattle.storage.specs.Word.{eighteen, is_protected}
-use Rattle.works.specs.declared.panel.Switches.{Switches}
-use Rattle.works.specs.declared.panel.RunState.{RunState}
 use Rattle.works.specs.declared.panel.RunState.TheVariants.{Stopped, Running}
 use Rattle.engine.specs.declared.state.Processor.{Processor}
-use Rattle.engine.specs.declared.place.By.{By}
 use Rattle.engine.specs.declared.place.By.TheVariants.{Program}
-use Rattle.engine.specs.Machine.{words_of_size, Machine, word_in, place, with_processor, with_core, with_points, with_books, with_works, with_registers, with_run, work}
-use Rattle.engine.specs.Events.{Event, read_from, reset, Did, quiet, ◌then◌}
-use Rattle.engine.specs.Makes.{Makes, calling_all}
+use Rattle.engine.specs.Machine.{words_of_size, Machine, word_in, place, with_processor, with_points, with_books, with_works, with_registers, with_run}
+use Rattle.engine.specs.Events.{read_from, reset, Did, quiet}
+use Rattle.engine.specs.Makes.{Makes}
 use Rattle.engine.specs.Cycle.{storing, refer}
-use Rattle.engine.specs.Step.{no_counts, with_totals, step}
+use Rattle.engine.specs.Step.{no_counts, with_totals}
 use Rattle.levels.specs.Standing.{latched}
 use Rattle.controller.specs.declared.call.Answer.{Answer}
-use Rattle.controller.specs.declared.call.Answer.TheVariants.{Done as Accepted, Stepped, Displayed, Found, Counted, Refused}
+use Rattle.controller.specs.declared.call.Answer.TheVariants.{Stepped, Displayed, Found, Counted}
 use Rattle.controller.specs.declared.call.Call.{Call}
 use Rattle.controller.specs.declared.call.Call.TheVariants.{Step, Start, Stop, ImmediateStop, SetSwitches, Point, LoadI, Load, Display, Clear, Search, Count}
 use Rattle.controller.specs.declared.call.ClearMode.{ClearMode}
 use Rattle.controller.specs.declared.call.ClearMode.TheVariants.{Run as ClearRun, Display as ClearDisplay}
 use Rattle.engine.specs.Instructions.{advanced, i_set}
 use Rattle.controller.specs.Opening.{on_panel}
-use Rattle.controller.specs.Console.{Done, answered, accepted, refuse, only_if, told, below_limit, report_of, stepping, at_rest, stopping, with_switches, switching, latching, is_stopped, loading_i, i_of, next_i, loading, displaying, data_switches, change_i, cleared, unprotected, swept, clearing, searching, bill_of, counting, made_call, lent_right, call}
+use Rattle.controller.specs.Console.{Done, answered, accepted, only_if, told, below_limit, report_of, stepping, at_rest, stopping, with_switches, latching, is_stopped, loading_i, i_of, next_i, loading, displaying, data_switches, change_i, cleared, swept, clearing, searching, bill_of, counting, made_call, lent_right, call}
 use Rattle.promises.specs.Stains.{Stain, stains, ReadsNoStain, Cores, Alike}
 use Rattle.promises.specs.Protection.{at_yes}
 use Rattle.promises.proofs.Cores.{same_bit}
-use Rattle.promises.proofs.Alike.{unread_append, Same, Both, Kept, then_both, alike_processor, alike_change, alike_core, change_kept, calling_all_kept, same_place, same_word, storing_kept}
+use Rattle.promises.proofs.Alike.{Same, Kept, then_both, alike_processor, alike_change, alike_core, change_kept, calling_all_kept, same_place, same_word, storing_kept}
 use Rattle.promises.proofs.Steps.{step_kept}
 use Rattle.promises.proofs.Clearing.{same_swept, run_cores, display_cores, same_search}
 

@@ -1,11 +1,11 @@
 -- Clear and search, on two cores that agree but for stained words.
-use Rattle.std.proofs.Common.{◌≡◌, ℕ, zero, suc, ◌+◌, ◌<◌, ◌≤◌, Bool, true, false, cond, not, eqb, ltb, ◌⊎◌, List, [], ◌∷◌, map, length, get_or, Some, None, Option, sym, refl, ap, ◌∙◌, subst, ap₂, inl, inr, ⊎_elim, true≢false, arith, eq-eqb}
+use Rattle.std.proofs.Common.{◌≡◌, ℕ, zero, suc, ◌+◌, ◌<◌, ◌≤◌, Bool, true, false, cond, not, eqb, ltb, ◌⊎◌, List, [], ◌∷◌, map, length, get_or, Some, None, sym, refl, ap, ◌∙◌, subst, ap₂, inl, inr, ⊎_elim, true≢false, arith, eq-eqb}
 use lib.ListN.{length-map, get_or-eq_default}
 use Rattle.std.specs.List.{prefix_len}
 use Rattle.std.proofs.lemmas.List.{get_or-map}
 use Rattle.std.proofs.lemmas.Bool.{cases_lt, cases_Bool}
 use Rattle.storage.specs.Word.{data_of, is_protected, parity_right, word_of}
-use Rattle.storage.specs.Memory.{right_before, first_wrong}
+use Rattle.storage.specs.Memory.{first_wrong}
 use Rattle.engine.specs.Events.{Event, stored_at}
 use Rattle.controller.specs.Console.{is_cleared, cleared, unprotected, swept}
 use Rattle.promises.specs.Stains.{Stain, stain, stains, StainedSound, Cores}

@@ -1,12 +1,12 @@
 -- Two cores that agree but for stained words, through every store.
-use Rattle.std.proofs.Common.{◌≡◌, ℕ, ◌+◌, ◌%◌, ◌<◌, ◌≤◌, Bool, true, false, cond, eqb, ltb, ◌⊎◌, List, [], ◌∷◌, length, get_or, set, sym, refl, ap, ◌∙◌, subst, inl, inr, ⊎_elim, true≢false, arith, length-set, get_or-set_other, get_or-set_same, le-ltb, lt-ltb, eqb-true}
+use Rattle.std.proofs.Common.{◌≡◌, ℕ, ◌<◌, ◌≤◌, Bool, true, false, eqb, ◌⊎◌, List, length, get_or, set, sym, refl, ap, ◌∙◌, subst, inl, inr, ⊎_elim, true≢false, arith, length-set, get_or-set_other, get_or-set_same, eqb-true}
 use lib.ListN.{get_or-eq_default}
 use borrow.Author.Tests.{eqb-false}
 use Rattle.std.proofs.lemmas.Bool.{cases_lt, cases_Bool}
-use Rattle.storage.specs.Word.{data_of, is_protected, parity_right, word_of, stored}
+use Rattle.storage.specs.Word.{data_of, is_protected, parity_right, word_of}
 use Rattle.storage.proofs.Parity.{word_sound}
-use Rattle.engine.specs.Events.{Event, stored_at, brought_to}
-use Rattle.promises.specs.Stains.{Stain, stain, stains, StainedSound, Cores}
+use Rattle.engine.specs.Events.{stored_at, brought_to}
+use Rattle.promises.specs.Stains.{Stain, stain, StainedSound, Cores}
 
 -- a stored word of data is unprotected or protected as it was meant to be, and has right parity
 data_small : (w : ℕ) → data_of w < 65536

@@ -1,18 +1,16 @@
 -- No plan touches the books, and with the write-protect switch at No none touches a protected word.
-use Rattle.std.proofs.Common.{◌≡◌, ℕ, Bool, true, false, List, [], ◌∷◌, ◌++◌, get_or, set, sym, refl, ap, ◌∙◌, subst, true≢false, get_or-set_other}
+use Rattle.std.proofs.Common.{◌≡◌, ℕ, Bool, true, false, List, [], ◌++◌, get_or, set, sym, refl, ap, ◌∙◌, subst, true≢false, get_or-set_other}
 use Rattle.storage.specs.Word.{data_of, is_protected, parity_right, stored}
 use Rattle.works.specs.declared.fault.Fault.{Fault}
 use Rattle.works.specs.declared.panel.Counts.{Counts}
 use Rattle.engine.specs.declared.place.By.{By}
-use Rattle.engine.specs.declared.place.By.TheVariants.{Program}
 use Rattle.engine.specs.declared.place.Position.{Position}
-use Rattle.engine.specs.declared.place.Position.TheVariants.{First, Second, Third, Fourth}
 use Rattle.engine.specs.declared.state.Books.{Books}
 use Rattle.engine.specs.Machine.{Machine, word_in, place, work}
-use Rattle.engine.specs.Events.{Event, Call, passed, stored_at, brought_to}
-use Rattle.engine.specs.Makes.{Makes, calling, calling_all}
+use Rattle.engine.specs.Events.{Event, Call, stored_at, brought_to}
+use Rattle.engine.specs.Makes.{Makes, calling}
 use Rattle.engine.specs.Faults.{fault_of, parity_cause, protect_cause, raise}
-use Rattle.engine.specs.Cycle.{Reference, reading, storing, bringing, marking, refer, parity_checked, checked_store, marked, tell, counted}
+use Rattle.engine.specs.Cycle.{Reference, reading, storing, bringing, marking, refer, parity_checked, checked_store, marked, tell}
 use Rattle.engine.specs.Levels.{drop_points}
 use Rattle.engine.specs.Plan.{Plan, perform}
 use Rattle.promises.specs.Protection.{Stands, at_yes}

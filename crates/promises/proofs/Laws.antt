@@ -1,8 +1,8 @@
 -- What holds of each thing that the machine can do holds of every plan: one induction for all promises of one machine.
-use Rattle.std.proofs.Common.{◌≡◌, ℕ, zero, suc, ◌+◌, ◌-◌, ◌%◌, Bool, true, false, List, [], ◌∷◌, ◌++◌, length, Some, None, Option}
+use Rattle.std.proofs.Common.{◌≡◌, ℕ, zero, suc, ◌+◌, ◌-◌, ◌%◌, List, [], ◌++◌, length, Some, None, Option}
 use Rattle.device.specs.declared.answer.Asking.{Asking}
 use Rattle.device.specs.declared.answer.Asking.TheVariants.{Nothing, Bring, Take}
-use Rattle.device.specs.Calls.{command_answer, sense_answer, bring_place, word_at}
+use Rattle.device.specs.Calls.{command_answer, sense_answer}
 use Rattle.works.specs.declared.channel.Channel.{Channel}
 use Rattle.works.specs.declared.channel.Channel.TheVariants.{Idle, Head, Data, NextHead}
 use Rattle.works.specs.declared.fault.Fault.{Fault}
@@ -14,7 +14,7 @@ use Rattle.engine.specs.declared.place.Position.{Position}
 use Rattle.engine.specs.declared.place.ChannelNumber.{ChannelNumber}
 use Rattle.engine.specs.declared.state.Works.{Works}
 use Rattle.engine.specs.Machine.{Machine, dev_at, position_of, with_channel, work}
-use Rattle.engine.specs.Events.{Event, Call, passed, command, sense, put, get, bring, take, finish, reset, Did, quiet, ◌then◌}
+use Rattle.engine.specs.Events.{Event, Call, passed, command, sense, put, get, bring, take, finish, reset, Did, ◌then◌}
 use Rattle.engine.specs.Makes.{Makes, make_at, calling}
 use Rattle.engine.specs.Faults.{device, raise}
 use Rattle.engine.specs.Cycle.{Reference, reading, storing, bringing, marking, refer, data_in, one_program, one_stolen, one_idle, tell, at_head, set_channel, brought_word, moves, transfer, after_table, ending, channel_of, asking_of, finished, steal, chosen, channel_in, served, turns, offers, cycle, idle_cycle}

@@ -1,31 +1,21 @@
 -- Every plan that reads no stained word does the same to machines that are alike.
-use Rattle.std.proofs.Common.{◌≡◌, ℕ, zero, suc, ◌+◌, ◌-◌, ◌%◌, Bool, true, false, List, [], ◌∷◌, ◌++◌, length, get_or, set, Some, None, Option, sym, refl, ap, ◌∙◌, subst, ap₂}
+use Rattle.std.proofs.Common.{◌≡◌, ℕ, zero, suc, ◌+◌, ◌%◌, Bool, true, false, List, [], ◌∷◌, ◌++◌, length, Some, None, Option, refl, ap, ◌∙◌, subst, ap₂}
 use mathlib.Core.Path.{fun_ext}
-use Rattle.storage.specs.Word.{data_of, is_protected, parity_right, word_of, stored}
-use Rattle.device.specs.declared.answer.Asking.{Asking}
-use Rattle.device.specs.declared.answer.Asking.TheVariants.{Nothing, Bring, Take}
+use Rattle.storage.specs.Word.{parity_right}
 use Rattle.device.specs.Calls.{command_answer, sense_answer}
-use Rattle.works.specs.declared.channel.Channel.{Channel}
-use Rattle.works.specs.declared.channel.Channel.TheVariants.{Idle, Head, Data, NextHead}
-use Rattle.works.specs.declared.fault.Fault.{Fault}
 use Rattle.works.specs.declared.panel.Counts.{Counts}
 use Rattle.engine.specs.declared.place.By.{By}
 use Rattle.engine.specs.declared.place.By.TheVariants.{Program}
 use Rattle.engine.specs.declared.place.Position.{Position}
-use Rattle.engine.specs.declared.place.Position.TheVariants.{First, Second, Third, Fourth}
-use Rattle.engine.specs.declared.place.ChannelNumber.{ChannelNumber}
-use Rattle.engine.specs.declared.place.ChannelNumber.TheVariants.{Channel1, Channel2, Channel3}
-use Rattle.engine.specs.declared.state.Works.{Works}
 use Rattle.engine.specs.declared.state.Processor.{Processor}
-use Rattle.engine.specs.Machine.{Machine, Dev, place, word_in, dev_at, position_of, channel_at, with_processor, with_core, with_dev, with_works, with_points, with_channel, work}
-use Rattle.engine.specs.Events.{Event, read_from, stored_at, brought_to, called, Call, passed, command, sense, put, get, bring, take, finish, Did, quiet, ◌then◌}
-use Rattle.engine.specs.Makes.{Makes, make_at, control_after, made, calling, calling_all}
-use Rattle.engine.specs.Faults.{device, fault_of, parity_cause, protect_cause, faulted, raise}
-use Rattle.engine.specs.Cycle.{Reference, reading, storing, bringing, marking, parity_checked, checked_store, marked, refer, data_in, one_program, one_stolen, one_idle, with_counts, counted, tell, at_head, set_channel, brought_word, moves, transfer, after_table, ending, channel_of, asking_of, finished, steal, wish_of, all_wishes, chosen, channel_in, served, turns, offers, cycle, idle_cycle}
+use Rattle.engine.specs.Machine.{Machine, place, word_in, dev_at, with_works, with_points, work}
+use Rattle.engine.specs.Events.{command, sense, put, get}
+use Rattle.engine.specs.Makes.{Makes, make_at, calling}
+use Rattle.engine.specs.Faults.{raise}
+use Rattle.engine.specs.Cycle.{reading, storing, bringing, marking, parity_checked, refer, data_in, one_program, tell, offers, cycle}
 use Rattle.engine.specs.Levels.{level_status, statuses, due_now, status_of, sensed_status, points_dropped, drop_points}
 use Rattle.engine.specs.Plan.{Sight, sight, Plan, done, act, look, read, store, mark, fetch, give, order, inquire, fault, interrupts, drop, rest, got_word, perform}
-use Rattle.promises.specs.Stains.{Stain, stain, stains, Unread, ReadsNoStain, Cores, Alike}
-use Rattle.promises.proofs.Cores.{made_right, made_protected, own_cores, device_cores, same_bit}
+use Rattle.promises.specs.Stains.{Stain, stains, ReadsNoStain, Alike}
 use Rattle.levels.specs.declared.state.Interrupt.{Interrupt}
 use Rattle.levels.specs.declared.state.Interrupt.TheVariants.{Internal, Level}
 use Rattle.levels.specs.Standing.{flag_word}

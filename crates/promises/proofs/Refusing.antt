@@ -1,5 +1,5 @@
 -- A refused call comes to nothing, and no call but a step tells a device of a cycle.
-use Rattle.std.proofs.Common.{◌≡◌, ℕ, ◌+◌, Bool, true, false, not, ◌&&◌, eqb, ltb, ◌≢◌, List, [], ◌∷◌, ◌++◌, length, sym, refl, ap, ◌∙◌, arith, ne_eqb}
+use Rattle.std.proofs.Common.{◌≡◌, Bool, true, false, not, ◌&&◌, ◌≢◌, [], length, sym, refl, ap, ◌∙◌, ne_eqb}
 use Rattle.refusal.specs.declared.Refusal.{Refusal}
 use Rattle.refusal.specs.declared.Refusal.TheVariants.{Length, Wiring, NotStopped, Protected, CycleLimit}
 use Rattle.storage.specs.Word.{is_protected}
@@ -11,7 +11,7 @@ use Rattle.controller.specs.declared.call.Answer.TheVariants.{Done as Accepted, 
 use Rattle.controller.specs.declared.call.Call.{Call}
 use Rattle.controller.specs.declared.call.Call.TheVariants.{Step, Start, Stop, ImmediateStop, SetSwitches, Point, LoadI, Load, Display, Clear, Search, Count}
 use Rattle.controller.specs.Opening.{on_panel}
-use Rattle.controller.specs.Console.{Done, accepted, refuse, only_if, at_rest, is_stopped, latching, loading_i, i_of, data_switches, told, below_limit, stepping, loading, displaying, clearing, searching, made_call, lent_right, call}
+use Rattle.controller.specs.Console.{Done, accepted, refuse, only_if, at_rest, is_stopped, latching, loading_i, i_of, data_switches, below_limit, stepping, loading, displaying, clearing, searching, made_call, lent_right, call}
 use Rattle.controller.specs.declared.call.ClearMode.{ClearMode}
 use Rattle.controller.specs.declared.call.ClearMode.TheVariants.{Run as ClearRun, Display as ClearDisplay}
 use Rattle.works.specs.declared.panel.Switches.{Switches}

@@ -1,12 +1,9 @@
 -- Lists of calls: what holds of each call, for any list.
-use Rattle.std.proofs.Common.{◌≡◌, ℕ, ◌+◌, ◌*◌, ◌≤◌, Bool, true, false, ◌&&◌, eqb, ◌≢◌, List, [], ◌∷◌, ◌++◌, length, get_or, sym, refl, ap, ◌∙◌, subst, ap₂, true≢false, arith, ne_eqb}
-use Rattle.refusal.specs.declared.Refusal.{Refusal}
+use Rattle.std.proofs.Common.{◌≡◌, ℕ, ◌+◌, ◌*◌, ◌≤◌, Bool, true, false, List, [], ◌∷◌, ◌++◌, length, get_or, sym, refl, ap, ◌∙◌, subst, ap₂, true≢false, arith}
 use Rattle.refusal.specs.declared.Refusal.TheVariants.{Length}
-use Rattle.storage.specs.Word.{is_protected}
 use Rattle.engine.specs.declared.place.Position.{Position}
 use Rattle.engine.specs.declared.place.Position.TheVariants.{First, Second, Third, Fourth}
-use Rattle.engine.specs.declared.state.Wiring.{Wiring}
-use Rattle.engine.specs.Machine.{Machine, Dev, dev_at}
+use Rattle.engine.specs.Machine.{Machine}
 use Rattle.engine.specs.Events.{Event}
 use Rattle.engine.specs.Makes.{Makes}
 use Rattle.controller.specs.declared.call.Answer.{Answer}
@@ -16,14 +13,14 @@ use Rattle.controller.specs.declared.call.Entry.{Entry}
 use Rattle.controller.specs.declared.call.Lent.{Lent}
 use Rattle.controller.specs.declared.call.Lent.TheVariants.{Opened, Other}
 use Rattle.controller.specs.Opening.{opened_machine}
-use Rattle.controller.specs.Console.{Done, refuse, told, bill_of}
+use Rattle.controller.specs.Console.{told, bill_of}
 use Rattle.controller.specs.Run.{lending, enter, run, after, answers_of, events_of}
 use Rattle.promises.specs.Ties.{Tied, outgoing}
-use Rattle.promises.specs.Stains.{Stain, unstained, stains, ReadsNoStain, StainedSound, Cores, Alike}
-use Rattle.promises.specs.Bill.{tellings, Fair, totals_of, unbilled, since_count, BillAddsUp}
+use Rattle.promises.specs.Stains.{Stain, unstained, stains, ReadsNoStain, StainedSound, Alike}
+use Rattle.promises.specs.Bill.{tellings, Fair, totals_of, unbilled, since_count}
 use Rattle.promises.specs.Protection.{Stands, at_yes, held_by, when_left_yes, AlwaysNo}
 use Rattle.promises.specs.Alone.{ProtectedWordsAlwaysStay, BillAlwaysAddsUp}
-use Rattle.promises.specs.Unread.{Twins, Unmoved, stained_after, UnreadInstrumentsDoNotMatter}
+use Rattle.promises.specs.Unread.{Twins, UnreadInstrumentsDoNotMatter}
 use Rattle.promises.proofs.Tying.{tied_more}
 use Rattle.promises.proofs.Firm.{stands_same, stands_more}
 use Rattle.promises.proofs.Alike.{stains_append, unread_append, control_at}

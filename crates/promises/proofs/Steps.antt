@@ -1,24 +1,23 @@
 -- What holds of every plan, for a step: its tally begins with nothing, and its end adds the tally to the totals.
-use Rattle.std.proofs.Common.{◌≡◌, ℕ, ◌+◌, ◌*◌, ◌≤◌, Bool, true, false, ◌&&◌, List, [], ◌∷◌, ◌++◌, length, sym, refl, ap, ◌∙◌, subst, ap₂, append-nil, arith}
-use Rattle.works.specs.declared.panel.Counts.{Counts}
+use Rattle.std.proofs.Common.{◌≡◌, ℕ, ◌+◌, Bool, true, false, ◌&&◌, [], length, sym, refl, ap, ◌∙◌, subst, ap₂, append-nil, arith}
 use Rattle.engine.specs.declared.place.Position.{Position}
 use Rattle.engine.specs.declared.state.Books.{Books}
 use Rattle.engine.specs.declared.state.Processor.{Processor}
-use Rattle.engine.specs.Machine.{Machine, dev_at, with_processor, with_tally}
-use Rattle.engine.specs.Events.{Call, Event, Did, quiet, ◌then◌}
+use Rattle.engine.specs.Machine.{Machine, with_processor, with_tally}
+use Rattle.engine.specs.Events.{Call, Did, quiet}
 use Rattle.engine.specs.Makes.{Makes, calling, calling_all}
 use Rattle.engine.specs.Levels.{due_now}
 use Rattle.engine.specs.Plan.{Plan, perform}
 use Rattle.engine.specs.Step.{plan_for, step_plan, no_tally, begun, check_stopped, summed, ended_step, step}
 use Rattle.controller.specs.Console.{told}
 use Rattle.promises.specs.Ties.{Tied}
-use Rattle.promises.specs.Stains.{Stain, stains, ReadsNoStain, Alike}
+use Rattle.promises.specs.Stains.{Stain, Alike}
 use Rattle.promises.specs.Bill.{tellings, Fair, totals_of}
 use Rattle.promises.specs.Protection.{Stands, at_yes}
 use Rattle.promises.proofs.Tying.{tied_more, same_devices, perform_tied}
-use Rattle.promises.proofs.Firm.{Firm, perform_firm}
-use Rattle.promises.proofs.Billing.{tally_of, tellings_append, perform_tallied, perform_fairly}
-use Rattle.promises.proofs.Alike.{Same, Both, Kept, then_both, change_kept, alike_change}
+use Rattle.promises.proofs.Firm.{perform_firm}
+use Rattle.promises.proofs.Billing.{tally_of, perform_tallied, perform_fairly}
+use Rattle.promises.proofs.Alike.{Same, Kept, then_both, change_kept, alike_change}
 use Rattle.promises.proofs.Plans.{same_due, perform_kept}
 
 -- the end of a step

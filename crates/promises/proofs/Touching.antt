@@ -1,20 +1,19 @@
 -- A word of core changes only where a store is told of, and the core's length never.
-use Rattle.std.proofs.Common.{◌≡◌, ℕ, zero, suc, ◌+◌, ◌<◌, ◌≤◌, Bool, true, false, cond, ◌||◌, eqb, ◌≢◌, ◌⊎◌, List, [], ◌∷◌, ◌++◌, map, length, get_or, set, sym, refl, ap, ◌∙◌, subst, inl, inr, ⊎_elim, true≢false, arith, length-set, get_or-set_other, eq-eqb, ne_eqb, eqb-true}
+use Rattle.std.proofs.Common.{◌≡◌, ℕ, zero, suc, ◌+◌, ◌<◌, ◌≤◌, Bool, true, false, cond, ◌||◌, eqb, ◌⊎◌, List, [], ◌∷◌, ◌++◌, map, length, get_or, set, sym, refl, ap, ◌∙◌, subst, inl, inr, true≢false, arith, length-set, get_or-set_other, eq-eqb}
 use lib.ListN.{length-map, get_or-eq_default}
 use borrow.Author.Tests.{eqb-false}
 use Rattle.std.proofs.lemmas.List.{get_or-map}
-use Rattle.std.proofs.lemmas.Bool.{cases_lt, cases_Bool}
+use Rattle.std.proofs.lemmas.Bool.{cases_lt}
 use Rattle.storage.specs.Word.{data_of, is_protected, parity_right, word_of, stored}
 use Rattle.works.specs.declared.fault.Fault.{Fault}
 use Rattle.works.specs.declared.panel.Counts.{Counts}
 use Rattle.engine.specs.declared.place.By.{By}
-use Rattle.engine.specs.declared.place.By.TheVariants.{Program}
 use Rattle.engine.specs.declared.place.Position.{Position}
-use Rattle.engine.specs.Machine.{Machine, word_in, place, work, with_processor}
-use Rattle.engine.specs.Events.{Event, Call, passed, reset, stored_at, brought_to}
+use Rattle.engine.specs.Machine.{Machine, word_in, place, work}
+use Rattle.engine.specs.Events.{Event, Call, stored_at, brought_to}
 use Rattle.engine.specs.Makes.{Makes, calling, calling_all}
 use Rattle.engine.specs.Faults.{fault_of, parity_cause, protect_cause, raise}
-use Rattle.engine.specs.Cycle.{Reference, reading, storing, bringing, marking, refer, parity_checked, checked_store, marked, tell, counted}
+use Rattle.engine.specs.Cycle.{Reference, reading, storing, bringing, marking, refer, parity_checked, checked_store, marked, tell}
 use Rattle.engine.specs.Levels.{drop_points}
 use Rattle.engine.specs.Plan.{Plan, perform}
 use Rattle.engine.specs.Step.{step_plan, begun, step}

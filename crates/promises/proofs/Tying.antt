@@ -5,11 +5,10 @@ use Rattle.storage.specs.Word.{is_protected, parity_right}
 use Rattle.works.specs.declared.fault.Fault.{Fault}
 use Rattle.works.specs.declared.panel.Counts.{Counts}
 use Rattle.engine.specs.declared.place.By.{By}
-use Rattle.engine.specs.declared.place.By.TheVariants.{Program}
 use Rattle.engine.specs.declared.place.Position.{Position}
 use Rattle.engine.specs.declared.place.Position.TheVariants.{First, Second, Third, Fourth}
 use Rattle.engine.specs.Machine.{Machine, Dev, dev_at, upon, word_in, place, with_dev, work}
-use Rattle.engine.specs.Events.{Event, Call, passed, called, stored_at, brought_to}
+use Rattle.engine.specs.Events.{Event, Call, passed, stored_at, brought_to}
 use Rattle.engine.specs.Makes.{Makes, make_at, made, calling, calling_all}
 use Rattle.engine.specs.Faults.{fault_of, parity_cause, protect_cause, raise}
 use Rattle.engine.specs.Cycle.{Reference, reading, storing, bringing, marking, refer, parity_checked, checked_store, marked, tell, counted}

@@ -1,5 +1,5 @@
 -- How the events and the machine belong together.
-use Rattle.std.specs.Prelude.{◌≡◌, ℕ, Bool, true, false, ◌||◌, List, [], ◌∷◌, length, ◌==◌, slice_index}
+use Rattle.std.specs.Prelude.{◌≡◌, ℕ, Bool, false, ◌||◌, List, [], ◌∷◌, length, ◌==◌, slice_index}
 use Rattle.device.specs.Meaning.{Meaning}
 use Rattle.engine.specs.declared.place.Position.{Position}
 use Rattle.engine.specs.Machine.{Machine, Dev, dev_at, upon}
