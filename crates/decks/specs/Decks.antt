@@ -1,6 +1,6 @@
 -- Worked decks: small programs run by the definition, and what was settled that they show.
 use Rattle.std.specs.Prelude.{ℕ, ◌-◌, false, List, [], ◌∷◌, ◌++◌, map, length, replicate}
-use Rattle.std.specs.List.{AllByRecursion as All}
+use Rattle.std.specs.List.{AllByRecursion}
 use Rattle.storage.specs.Word.{word_of}
 use Rattle.terminal.specs.declared.state.Terminal.{Terminal}
 use Rattle.scanner.specs.Scanners.{scanner, scanner_control}
@@ -123,4 +123,4 @@ decks =
     } ∷ []))))))
 
 abbrev pub DecksHold : Type 0
-DecksHold = All Holds decks
+DecksHold = AllByRecursion Holds decks

@@ -2,7 +2,7 @@
 use Rattle.std.proofs.Common.{◌≡◌, Bool, true, List, [], ◌∷◌, refl}
 use lib.Count.{ones, ones_in}
 use Rattle.std.proofs.lemmas.Slice.Eq.{bytes_eq-Decides}
-use Rattle.std.specs.List.{list_all, AllByRecursion as All}
+use Rattle.std.specs.List.{list_all, AllByRecursion}
 use Rattle.std.specs.Str.{bytes_eq}
 use Rattle.std.proofs.lemmas.Bool.{and_parts}
 use Rattle.settled.specs.Examples.{Example, examples, Holds, AllHold}
@@ -10,7 +10,7 @@ use Rattle.settled.specs.Examples.{Example, examples, Holds, AllHold}
 abbrev pub same : Example → Bool
 same e = bytes_eq e.worked_out e.settled
 
-pub each : (es : List Example) → list_all same es ≡ true → All Holds es
+pub each : (es : List Example) → list_all same es ≡ true → AllByRecursion Holds es
 each [] t = tt
 each (e ∷ es) t =
     let p = and_parts (same e) (list_all same es) t in

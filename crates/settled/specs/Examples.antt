@@ -1,7 +1,7 @@
 -- The settled examples: numbers that were agreed by hand before there was any code, and worked examples of the machine's manual. One
 -- list for the whole controller; an example says which numbers the definitions work out, and which were settled.
 use Rattle.std.specs.Prelude.{◌≡◌, ℕ, Bool, true, false, cond, List, [], ◌∷◌, ◌++◌, map, Some}
-use Rattle.std.specs.List.{AllByRecursion as All}
+use Rattle.std.specs.List.{AllByRecursion}
 use Rattle.storage.specs.Word.{word_of}
 use Rattle.instruction.specs.declared.words.Index.TheVariants.{One}
 use Rattle.instruction.specs.declared.words.Conditions.{Conditions}
@@ -95,7 +95,7 @@ abbrev pub Holds : Example → Type 0
 Holds e = e.worked_out ≡ e.settled
 
 abbrev pub AllHold : Type 0
-AllHold = All Holds examples
+AllHold = AllByRecursion Holds examples
 
 -- what the definitions work out, one after the other
 abbrev pub numbers : List Example → List ℕ
