@@ -1,13 +1,14 @@
 #!/usr/bin/env python3
 """Brings the names that this repository gave to its own definitions and lemmas to the spelling of today's Rattle.
 
-usage: python3 tools/snake_names.py        once, at the top, right after the toolchain's port.py
+usage: python3 tools/snake_names.py        once, at the top, right after the toolchain's port.py, and never on a tree that was mended since
 
 A name of specs/ or proofs/ that was spelled with dashes gets underscores, as `parity-right` becomes `parity_right`; a type
 or a fact, which begins with a capital, is written in one, as `Same-file` becomes `SameFile`. Names that are not the
 repository's own stay: those that a file brings in from the library, and those that the toolchain makes for goals and
 steps of a proof, whose parts a dash joins and whose source names keep their underscores (`returns-then-parity_is_right`).
-Comments are turned only inside backticks, strings not at all. A second run changes nothing.
+There it goes by text: a call `read` bound to `word`, whose step is `read-word`, it takes for a function `read_word`; the check tells.
+Comments are turned only inside backticks, strings not at all.
 """
 import glob
 import re
@@ -21,8 +22,14 @@ USE = re.compile(r"use\s+([\w.'+-]+)\.\{([^}]*)\}")
 TOKEN = re.compile(r"--[^\n]*|//[^\n]*|\"(?:[^\"\\]|\\.)*\"|«[^»]*»|" + WORD)
 
 
+# A name that would be a field's, once it is turned: `first_wrong` of the survey.
+OTHER = {"first-wrong": "first_wrong_address"}
+
+
 def turned(name):
     """The new spelling of a name of the repository's own."""
+    if name in OTHER:
+        return OTHER[name]
     if name[0].isupper():
         parts = name.split("-")
         return parts[0] + "".join(p[:1].upper() + p[1:] for p in parts[1:])

@@ -3,7 +3,7 @@ use Rattle.std.specs.Prelude.{ℕ, ◌+◌, Bool, true, false, cond, not, List, 
 use Rattle.refusal.specs.declared.Refusal.{Refusal}
 use Rattle.refusal.specs.declared.Refusal.TheVariants.{Length, Wiring, NotStopped, Protected, CycleLimit}
 use Rattle.storage.specs.Word.{eighteen, data_of, is_protected, word_of}
-use Rattle.storage.specs.Memory.{first_wrong}
+use Rattle.storage.specs.Memory.{first_wrong_address}
 use Rattle.registers.specs.declared.state.Registers.{Registers}
 use Rattle.levels.specs.Standing.{latched}
 use Rattle.works.specs.declared.panel.Counts.{Counts}
@@ -131,7 +131,7 @@ clearing ClearDisplay at_yes s = quiet (with_core (map (unprotected at_yes) s.co
 
 -- Search: the lowest address with wrong parity, if there is one. It is no read.
 abbrev pub searching : Machine → Done
-searching s = answered (λ t. Found (first_wrong t.core)) (quiet s)
+searching s = answered (λ t. Found (first_wrong_address t.core)) (quiet s)
 
 -- Count answers the totals, and zeroes them.
 abbrev pub bill_of : Counts → Bill

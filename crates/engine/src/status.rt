@@ -1,5 +1,5 @@
 // Status words of the levels, what is due, and what a sense of interrupts answers.
-ghost use Rattle.std.specs.Prelude.{◌≡◌, ℕ, ◌-◌, ◌^◌, ◌<◌, ◌&&◌, List, if◌then◌else◌, Some, nat_eq};
+ghost use Rattle.std.specs.Prelude.{◌≡◌, ℕ, ◌-◌, ◌^◌, ◌<◌, ◌&&◌, List, if◌then◌else◌, Some, ◌==◌};
 ghost use Rattle.levels.specs.declared.state.Interrupt.TheVariants.{Level};
 ghost use Rattle.engine.specs.Levels.{lines_at as the_lines, level_status as the_status, statuses as the_statuses, status_of, due_now, sensed_status as the_sensed};
 ghost use Rattle.engine.specs.Code.{view, makes};
@@ -11,7 +11,7 @@ use levels::state::{Interrupt, LEVELS};
 
 // The bit that a raised line gives to a level.
 fn line_bit(wire: Wire, raised: bool, level: usize) -> u16
-    ensures { result ≡ (if nat_eq wire.level level && raised then 2 ^ (15 - wire.bit) else 0) }
+    ensures { result ≡ (if wire.level == level && raised then 2 ^ (15 - wire.bit) else 0) }
 {
     if wire.level == level && raised {
         1u16 << 15u32.saturating_sub(wire.bit)

@@ -1,5 +1,5 @@
 -- What is due, in the subject's own words.
-use Rattle.std.specs.Prelude.{◌≡◌, ℕ, ◌<◌, ◌≤◌, true, false, List, length, get_or, Some, None, slice_index_or}
+use Rattle.std.specs.Prelude.{◌≡◌, ◌≢◌, ℕ, ◌<◌, ◌≤◌, true, false, List, length, Some, None, slice_index, slice_index_or}
 use Rattle.levels.specs.declared.state.Flags.{Flags}
 use Rattle.levels.specs.declared.state.Masks.{Masks}
 use Rattle.levels.specs.declared.state.Service.{Service}
@@ -9,14 +9,14 @@ use Rattle.levels.specs.Interrupts.{due, highest}
 
 -- a level stands: it has a status and no mask, and nothing from the internal level down to itself is in service
 pub record Stands (m : Masks) (words : List ℕ) (s : Service) (n : ℕ) : Type 0 where
-  pub status : get_or words n 0 ≡ 0 → ⊥
+  pub status : slice_index words n ≢ 0
   pub unmasked : is_masked m n ≡ false
   pub not_internal : s.internal ≡ false
   pub none_higher : (k : ℕ) → k ≤ n → slice_index_or s.levels k false ≡ false
 
 -- the internal level stands: it has a flag, and is not in service
 pub record InternalStands (f : Flags) (s : Service) : Type 0 where
-  pub flag : flag_word f ≡ 0 → ⊥
+  pub flag : flag_word f ≢ 0
   pub idle : s.internal ≡ false
 
 -- with a status word and a service for each of 24 levels

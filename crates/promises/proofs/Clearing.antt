@@ -5,7 +5,7 @@ use Rattle.std.specs.List.{prefix_len}
 use Rattle.std.proofs.lemmas.List.{get_or-map}
 use Rattle.std.proofs.lemmas.Bool.{cases_lt, cases_Bool}
 use Rattle.storage.specs.Word.{data_of, is_protected, parity_right, word_of}
-use Rattle.storage.specs.Memory.{first_wrong}
+use Rattle.storage.specs.Memory.{first_wrong_address}
 use Rattle.engine.specs.Events.{Event, stored_at}
 use Rattle.controller.specs.Console.{is_cleared, cleared, unprotected, swept}
 use Rattle.promises.specs.Stains.{Stain, stain, stains, StainedSound, Cores}
@@ -137,6 +137,6 @@ leading_same p (v ∷ vs) [] e h = absurd (omega arith)
 leading_same p (v ∷ vs) (w ∷ ws) e h =
     ap₂ (λ (x : Bool) (n : ℕ). cond x (1 + n) 0) (h 0 (omega arith)) (leading_same p vs ws (omega arith) (λ a lt. h (suc a) (omega arith)))
 
-pub same_search : {st : Stain} {c d : List ℕ} → Cores st c d → first_wrong c ≡ first_wrong d
+pub same_search : {st : Stain} {c d : List ℕ} → Cores st c d → first_wrong_address c ≡ first_wrong_address d
 same_search {st} {c} {d} h =
     ap₂ (λ (n k : ℕ). cond (ltb n k) (Some n) None) (leading_same parity_right c d h.size (same_parity h)) h.size

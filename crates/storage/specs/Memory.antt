@@ -15,8 +15,8 @@ abbrev pub right_before : List ℕ → ℕ
 right_before core = prefix_len parity_right core
 
 -- the address of the first word whose parity is wrong, if there is one
-abbrev pub first_wrong : List ℕ → Option ℕ
-first_wrong core = cond (nat_lt (right_before core) (length core)) (Some (right_before core)) None
+abbrev pub first_wrong_address : List ℕ → Option ℕ
+first_wrong_address core = cond (nat_lt (right_before core) (length core)) (Some (right_before core)) None
 
 -- The law of a search: at the address that it finds parity is wrong, before it parity is right, and where it finds
 -- none parity is right everywhere.

@@ -3,12 +3,12 @@ use Rattle.std.specs.Prelude.{ℕ, cond, List, length, Ok, Err, Result}
 use Rattle.refusal.specs.declared.Refusal.{Refusal}
 use Rattle.refusal.specs.declared.Refusal.TheVariants.{Length}
 use Rattle.storage.specs.declared.survey.Survey.{Survey}
-use Rattle.storage.specs.Memory.{protected_count, first_wrong}
+use Rattle.storage.specs.Memory.{protected_count, first_wrong_address}
 use Rattle.storage.specs.Image.{fits, decoding, words_of}
 
 -- a core of these words
 abbrev pub survey_of : List ℕ → Survey
-survey_of core = record { words = length core; protected = protected_count core; first_wrong = first_wrong core }
+survey_of core = record { words = length core; protected = protected_count core; first_wrong = first_wrong_address core }
 
 abbrev pub when_decoded : Result (Unit {0}) Refusal → List ℕ → Result Survey Refusal
 when_decoded (Ok u) image = Ok (survey_of (words_of image))

@@ -1,6 +1,6 @@
 // Core as a whole. The host lends it to each call as a slice.
 ghost use Rattle.std.specs.Prelude.{◌≡◌, length};
-ghost use Rattle.storage.specs.Memory.{core_size, protected_count, first_wrong, Searched};
+ghost use Rattle.storage.specs.Memory.{core_size, protected_count, first_wrong_address, Searched};
 
 use crate::word::{is_protected, parity_is_right};
 
@@ -26,7 +26,7 @@ pub fn count_protected(core: &[u32]) -> usize
 
 // Searches for wrong parity, from the lowest address up. Any slice will do, of a core's length or not.
 pub fn first_wrong_parity(core: &[u32]) -> Option<usize>
-    ensures value { result ≡ first_wrong core.now }
+    ensures value { result ≡ first_wrong_address core.now }
     ensures searched { Searched core.now result }
 {
     for (address, word) in core.iter().enumerate() {
