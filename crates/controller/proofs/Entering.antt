@@ -1,12 +1,11 @@
 -- Start and step, as the definition has them.
-use Rattle.std.proofs.Common.{◌≡◌, Bool, true, false, Result, sym, refl, ap, ◌∙◌}
+use Rattle.std.proofs.Common.{◌≡◌, Bool, true, false, Err, Result, sym, refl, ap, ◌∙◌}
 use Rattle.refusal.specs.declared.Refusal.{Refusal}
 use Rattle.refusal.specs.declared.Refusal.TheVariants.{Length, CycleLimit}
 use Rattle.engine.specs.declared.state.Report.{Report}
 use Rattle.engine.specs.Machine.{Machine}
 use Rattle.engine.specs.Makes.{Makes}
 use Rattle.engine.specs.Step.{lent_right, below_limit, step_answer, step_machine}
-use Rattle.controller.specs.declared.call.Answer.TheVariants.{Refused}
 use Rattle.controller.specs.declared.call.Call.{Call}
 use Rattle.controller.specs.declared.call.Call.TheVariants.{Step}
 use Rattle.controller.specs.Console.{only_if, stepping, made_call, call}
@@ -39,7 +38,7 @@ module _ (m : Makes) (s : Machine) where
   step_left t e = e ∙ lent_left (lent_right s)
 
   -- any call, lent a wrong core; and start, lent the right one
-  pub wrong_answer : (c : Call) → lent_right s ≡ false → Refused Length ≡ (call m c s).answer
+  pub wrong_answer : (c : Call) → lent_right s ≡ false → Err Length ≡ (call m c s).answer
   unfolding call
   wrong_answer c e = ap (λ (b : Bool). (only_if b Length (made_call m c) s).answer) (sym e)
 

@@ -1,5 +1,5 @@
 -- The twelve calls, each with its refusals in order of their numbers. A refused call changes nothing. No call but a step makes a cycle.
-use Rattle.std.specs.Prelude.{ℕ, ◌+◌, Bool, true, false, cond, not, List, [], ◌∷◌, map, length}
+use Rattle.std.specs.Prelude.{ℕ, ◌+◌, Bool, true, false, cond, not, List, [], ◌∷◌, map, length, Ok, Err, Result}
 use Rattle.refusal.specs.declared.Refusal.{Refusal}
 use Rattle.refusal.specs.declared.Refusal.TheVariants.{Length, Wiring, NotStopped, Protected, CycleLimit}
 use Rattle.storage.specs.Word.{eighteen, data_of, is_protected, word_of}
@@ -21,14 +21,18 @@ use Rattle.engine.specs.Cycle.{storing, refer}
 use Rattle.engine.specs.Instructions.{advanced, i_set}
 pub use Rattle.engine.specs.Step.{told, below_limit, report_of, lent_right}
 use Rattle.engine.specs.Step.{no_counts, no_tally, with_totals, step}
-use Rattle.controller.specs.declared.call.Answer.{Answer}
-use Rattle.controller.specs.declared.call.Answer.TheVariants.{Done as Accepted, Stepped, Displayed, Found, Counted, Refused}
+use Rattle.controller.specs.declared.call.Outcome.{Outcome}
+use Rattle.controller.specs.declared.call.Outcome.TheVariants.{Done as Accepted, Stepped, Displayed, Found, Counted}
 use Rattle.controller.specs.declared.call.Bill.{Bill}
 use Rattle.controller.specs.declared.call.Call.{Call}
 use Rattle.controller.specs.declared.call.Call.TheVariants.{Step, Start, Stop, ImmediateStop, SetSwitches, Point, LoadI, Load, Display, Clear, Search, Count}
 use Rattle.controller.specs.declared.call.ClearMode.{ClearMode}
 use Rattle.controller.specs.declared.call.ClearMode.TheVariants.{Run as ClearRun, Display as ClearDisplay}
 use Rattle.controller.specs.Opening.{on_panel, opened_works, no_points}
+
+-- a call answers an outcome, or the refusal that turned it down
+abbrev pub Answer : Type 0
+Answer = Result Outcome Refusal
 
 -- what a call comes to: the machine after it, what took place, and the answer
 pub record Done : Type 0 where
@@ -40,17 +44,17 @@ abbrev pub answered : (Machine → Answer) → Did → Done
 answered f d = record { machine = d.machine; events = d.events; answer = f d.machine }
 
 abbrev pub accepted : Did → Done
-accepted d = answered (λ s. Accepted) d
+accepted d = answered (λ s. Ok Accepted) d
 
 abbrev pub refuse : Refusal → Machine → Done
-refuse r s = record { machine = s; events = []; answer = Refused r }
+refuse r s = record { machine = s; events = []; answer = Err r }
 
 abbrev pub only_if : Bool → Refusal → (Machine → Done) → Machine → Done
 only_if true r call s = call s
 only_if false r call s = refuse r s
 
 abbrev pub stepping : Makes → Machine → Done
-stepping m s = answered (λ t. Stepped (report_of t.processor)) (step m s)
+stepping m s = answered (λ t. Ok (Stepped (report_of t.processor))) (step m s)
 
 -- Immediate stop: all is as at opening but index registers, totals, switches and what opening gave, and each device is reset.
 abbrev pub stopped_registers : Registers → Registers
@@ -105,7 +109,7 @@ loading s = accepted (refer Program (storing (i_of s) (data_switches s)) s then 
 
 abbrev pub displaying : Machine → Done
 displaying s =
-    answered (λ t. Displayed (eighteen (word_in (i_of s) s))) (record { machine = s; events = read_from (place (i_of s) s) ∷ [] } then next_i)
+    answered (λ t. Ok (Displayed (eighteen (word_in (i_of s) s)))) (record { machine = s; events = read_from (place (i_of s) s) ∷ [] } then next_i)
 
 -- Clear. Told Run: the switches' data everywhere, all protection gone; at No, protected words are spared. Told Display: protection gone, data
 -- as they were, parity made right; at No, nothing.
@@ -131,7 +135,7 @@ clearing ClearDisplay at_yes s = quiet (with_core (map (unprotected at_yes) s.co
 
 -- Search: the lowest address with wrong parity, if there is one. It is no read.
 abbrev pub searching : Machine → Done
-searching s = answered (λ t. Found (first_wrong_address t.core)) (quiet s)
+searching s = answered (λ t. Ok (Found (first_wrong_address t.core))) (quiet s)
 
 -- Count answers the totals, and zeroes them.
 abbrev pub bill_of : Counts → Bill
@@ -139,7 +143,7 @@ bill_of c = record { program = c.program; stolen = c.stolen; idle = c.idle; told
 
 abbrev pub counting : Machine → Done
 counting s =
-    answered (λ t. Counted (bill_of s.processor.books.totals))
+    answered (λ t. Ok (Counted (bill_of s.processor.books.totals)))
     (quiet (with_processor (with_books (with_totals no_counts s.processor.books) s.processor) s))
 
 -- each call, its own refusals first

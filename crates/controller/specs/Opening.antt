@@ -1,8 +1,8 @@
 -- Opening tests first; the making that follows always succeeds.
-use Rattle.std.specs.Prelude.{ℕ, Bool, true, false, cond, ◌&&◌, List, length, replicate, Ok, Err, Result, ◌==◌, nat_lt}
+use Rattle.std.specs.Prelude.{ℕ, Bool, true, false, cond, ◌&&◌, List, length, replicate, Ok, Err, Result, nat_lt}
 use Rattle.refusal.specs.declared.Refusal.{Refusal}
 use Rattle.refusal.specs.declared.Refusal.TheVariants.{Length, Wiring as BadWiring}
-use Rattle.storage.specs.Memory.{core_size}
+use Rattle.storage.specs.Memory.{core_size, size_of}
 use Rattle.registers.specs.declared.state.Registers.{Registers}
 use Rattle.levels.specs.declared.state.Masks.{Masks}
 use Rattle.levels.specs.declared.state.Points.{Points}
@@ -10,8 +10,6 @@ use Rattle.levels.specs.declared.state.Service.{Service}
 use Rattle.works.specs.declared.channel.Channel.TheVariants.{Idle}
 use Rattle.works.specs.declared.panel.Switches.{Switches}
 use Rattle.works.specs.declared.panel.RunState.TheVariants.{Stopped}
-use Rattle.engine.specs.declared.state.CoreSize.{CoreSize}
-use Rattle.engine.specs.declared.state.CoreSize.TheVariants.{Words4096, Words8192, Words16384, Words32768}
 use Rattle.engine.specs.declared.state.Wire.{Wire}
 use Rattle.engine.specs.declared.state.Wiring.{Wiring}
 use Rattle.engine.specs.declared.state.Works.{Works}
@@ -38,10 +36,6 @@ opening n w = cond (core_size n) (cond (all_wired w) (Ok tt) (Err BadWiring)) (E
 abbrev pub is_accepted : Result (Unit {0}) Refusal → Bool
 is_accepted (Ok u) = true
 is_accepted (Err e) = false
-
--- the size of so many words
-abbrev pub size_of : ℕ → CoreSize
-size_of n = cond (n == 4096) Words4096 (cond (n == 8192) Words8192 (cond (n == 16384) Words16384 Words32768))
 
 -- As opened: nothing runs, registers are 0, every level is masked, every switch is off. Off is No for the write-protect switch.
 abbrev pub switches_off : Switches

@@ -4,12 +4,11 @@ use Rattle.refusal.specs.declared.Refusal.TheVariants.{Length}
 use Rattle.engine.specs.Machine.{Machine}
 use Rattle.engine.specs.Events.{Event}
 use Rattle.engine.specs.Makes.{Makes}
-use Rattle.controller.specs.declared.call.Answer.{Answer}
 use Rattle.controller.specs.declared.call.Call.{Call}
 use Rattle.controller.specs.declared.call.Entry.{Entry}
 use Rattle.controller.specs.declared.call.Lent.{Lent}
 use Rattle.controller.specs.declared.call.Lent.TheVariants.{Opened, Other}
-use Rattle.controller.specs.Console.{Done, refuse, call}
+use Rattle.controller.specs.Console.{Answer, Done, refuse, call}
 
 -- a core of another length is refused with 1, and is left as it was
 abbrev pub lending : Lent → Makes → Call → Machine → Done

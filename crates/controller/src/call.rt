@@ -4,13 +4,13 @@ use refusal::Refusal;
 use works::panel::Switches;
 
 // What clear is told: to clear storage, or to clear protect bits.
-#[derive(Clone, Copy)]
+#[derive(Clone, Copy, PartialEq, Eq, Debug)]
 pub enum ClearMode {
     Run,
     Display,
 }
 
-#[derive(Clone, Copy)]
+#[derive(Clone, Copy, PartialEq, Eq, Debug)]
 pub enum Call {
     Step,
     Start,
@@ -27,20 +27,20 @@ pub enum Call {
 }
 
 // Which core a call is lent: the opened one, where the last call left off, or one of a wrong length.
-#[derive(Clone, Copy)]
+#[derive(Clone, Copy, PartialEq, Eq, Debug)]
 pub enum Lent {
     Opened,
     Other,
 }
 
-#[derive(Clone, Copy)]
+#[derive(Clone, Copy, PartialEq, Eq, Debug)]
 pub struct Entry {
     pub call: Call,
     pub lent: Lent,
 }
 
 // What a count answers. Told is how many cycles each device was told of.
-#[derive(Clone, Copy)]
+#[derive(Clone, Copy, PartialEq, Eq, Debug)]
 pub struct Bill {
     pub program: u64,
     pub stolen: u64,
@@ -48,13 +48,15 @@ pub struct Bill {
     pub told: u64,
 }
 
-#[derive(Clone, Copy)]
-pub enum Answer {
+// What a call that is not refused answers.
+#[derive(Clone, Copy, PartialEq, Eq, Debug)]
+pub enum Outcome {
     // of start, stop, immediate stop, switches, point, load I, load and clear
     Done,
     Stepped(Report),
     Displayed(u32),
     Found(Option<usize>),
     Counted(Bill),
-    Refused(Refusal),
 }
+
+pub type Answer = Result<Outcome, Refusal>;

@@ -1,24 +1,23 @@
 // Opening: a check by reference, and a making that refuses nothing.
 ghost use Rattle.std.specs.Prelude.{◌≡◌, length};
 ghost use Rattle.storage.specs.Memory.{core_size};
-ghost use Rattle.controller.specs.Opening.{on_panel as the_panel, all_wired as the_wired, size_of as the_size, opening, is_accepted, opened_works as the_works, opened_books as the_books, opened as the_opened};
-ghost use Rattle.engine.specs.Step.{no_counts as none_counted};
+ghost use Rattle.controller.specs.Opening.{on_panel as the_panel, all_wired as the_wired, opening, opened_works as the_works, opened_books as the_books, opened as the_opened};
 
 use crate::controller::Controller;
 use device::interface::{ChannelDevice, Device};
 use engine::engine::Engine;
-use engine::state::{Books, CoreSize, Processor, Tally, Wire, Wiring, Works};
-use levels::state::{Flags, Masks, Points, Service};
+use engine::state::{Books, Processor, Tally, Wire, Wiring, Works};
+use levels::state::{Flags, LEVELS, Masks, Points, Service};
 use refusal::Refusal;
 use registers::state::Registers;
-use storage::memory::is_core_size;
+use storage::memory::CoreSize;
 use works::channel::Channel;
 use works::panel::{Counts, RunState, Switches};
 
 fn wired(wire: &Wire) -> bool
     ensures { result ≡ the_panel wire.now.level wire.now.bit }
 {
-    wire.level < 24 && wire.bit < 16
+    wire.level < LEVELS && wire.bit < 16
 }
 
 fn all_wired(wiring: &Wiring) -> bool
@@ -30,9 +29,7 @@ fn all_wired(wiring: &Wiring) -> bool
 fn check(words: usize, wiring: &Wiring) -> Result<(), Refusal>
     ensures { result ≡ opening words wiring.now }
 {
-    if !is_core_size(words) {
-        return Err(Refusal::Length);
-    }
+    CoreSize::try_from(words)?;
     if !all_wired(wiring) {
         return Err(Refusal::Wiring);
     }
@@ -46,54 +43,20 @@ pub fn check_opening(core: &[u32], wiring: &Wiring) -> Result<(), Refusal>
     check(core.len(), wiring)
 }
 
-fn size_of(words: usize) -> CoreSize
-    ensures { result ≡ the_size words }
-{
-    match words {
-        4096 => CoreSize::Words4096,
-        8192 => CoreSize::Words8192,
-        16384 => CoreSize::Words16384,
-        _ => CoreSize::Words32768,
-    }
-}
-
-fn no_counts() -> Counts
-    ensures { result ≡ none_counted }
-{
-    Counts {
-        program: 0,
-        stolen: 0,
-        idle: 0,
-    }
-}
-
 fn opened_works() -> Works
     ensures { result ≡ the_works }
 {
     Works {
-        registers: Registers {
-            i: 0,
-            a: 0,
-            q: 0,
-            x1: 0,
-            x2: 0,
-            x3: 0,
-            carry: false,
-            overflow: false,
-        },
+        registers: Registers::default(),
         masks: Masks {
             low: 65_535,
             high: 255,
         },
         service: Service {
-            levels: [false; 24],
+            levels: [false; LEVELS],
             internal: false,
         },
-        flags: Flags {
-            parity: false,
-            operation: false,
-            protect: false,
-        },
+        flags: Flags::default(),
         channel1: Channel::Idle,
         channel2: Channel::Idle,
         channel3: Channel::Idle,
@@ -105,14 +68,10 @@ fn opened_books(words: usize, wiring: Wiring) -> Books
     ensures { result ≡ the_books words wiring }
 {
     Books {
-        switches: Switches {
-            data: 0,
-            sense: 0,
-            check_stop: false,
-            write_protect: false,
-        },
-        totals: no_counts(),
-        size: size_of(words),
+        switches: Switches::default(),
+        totals: Counts::default(),
+        // over what the check refuses, no address is ever looked at
+        size: CoreSize::try_from(words).unwrap_or(CoreSize::Words32768),
         accepted: check(words, &wiring).is_ok(),
         wiring,
     }
@@ -123,13 +82,8 @@ fn opened(words: usize, wiring: Wiring) -> Processor
 {
     Processor {
         works: opened_works(),
-        points: Points { words: [0; 24] },
-        tally: Tally {
-            counts: no_counts(),
-            faults: 0,
-            first: None,
-            checked: false,
-        },
+        points: Points { words: [0; LEVELS] },
+        tally: Tally::default(),
         books: opened_books(words, wiring),
     }
 }

@@ -59,7 +59,7 @@ impl<A: ChannelDevice, B: ChannelDevice, C: ChannelDevice, D: Device> Controller
         self.engine.level_status(level)
     }
 
-    // The devices, by position.
+    // The devices, by position. Each has a type of its own, so there is a function for each.
     pub fn first(&self) -> &A
         ensures { result.now ≡ self.now.engine.first }
     {

@@ -1,5 +1,5 @@
 -- Worked decks: small programs run by the definition, and what was settled that they show.
-use Rattle.std.specs.Prelude.{ℕ, ◌-◌, false, List, [], ◌∷◌, ◌++◌, map, length, replicate}
+use Rattle.std.specs.Prelude.{ℕ, ◌-◌, false, List, [], ◌∷◌, ◌++◌, map, length, replicate, Some, Ok, Err}
 use Rattle.std.specs.List.{AllByRecursion}
 use Rattle.storage.specs.Word.{word_of}
 use Rattle.terminal.specs.declared.state.Terminal.{Terminal}
@@ -8,21 +8,20 @@ use Rattle.recorder.specs.Recorders.{recorder, recorder_control}
 use Rattle.engine.specs.declared.state.Wiring.{Wiring}
 use Rattle.engine.specs.Machine.{Machine, Dev}
 use Rattle.engine.specs.Makes.{Makes}
-use Rattle.controller.specs.declared.call.Answer.{Answer}
-use Rattle.controller.specs.declared.call.Answer.TheVariants.{Done, Stepped, Displayed, Found, Counted, Refused}
+use Rattle.controller.specs.declared.call.Outcome.TheVariants.{Done, Stepped, Displayed, Found, Counted}
 use Rattle.controller.specs.declared.call.Call.{Call}
 use Rattle.controller.specs.declared.call.Call.TheVariants.{Step, Start, Stop, Point}
 use Rattle.controller.specs.declared.call.Entry.{Entry}
 use Rattle.controller.specs.declared.call.Lent.TheVariants.{Opened}
 use Rattle.engine.specs.declared.state.Report.{Report}
 use Rattle.controller.specs.Opening.{opened_machine}
-use Rattle.controller.specs.Console.{Done as CameTo}
+use Rattle.controller.specs.Console.{Answer, Done as CameTo}
 use Rattle.controller.specs.Run.{run}
 use Rattle.settled.specs.Examples.{Example, Holds, bit}
 
 -- three scanners, areas 1 to 3, and a recorder, area 4, all at rest with gap 1; the first scanner has these readings
 abbrev pub at_rest : ℕ → Terminal
-at_rest area = record { area = area; gap = 1; operating = false; wait = 0; line = false }
+at_rest area = record { area = Some area; gap = 1; operating = false; wait = 0; line = false }
 
 abbrev pub bench : Makes
 bench = record { first = scanner; second = scanner; third = scanner; fourth = recorder }
@@ -64,12 +63,12 @@ abbrev pub checks_seen : Machine → Report → List ℕ
 checks_seen s r = s.processor.works.registers.i ∷ (s.processor.works.registers.a ∷ (bit s.processor.works.registers.carry ∷ (r.faults ∷ [])))
 
 abbrev pub seen_of : (Machine → Report → List ℕ) → Machine → Answer → List ℕ
-seen_of f s (Stepped r) = f s r
-seen_of f s Done = []
-seen_of f s (Displayed w) = []
-seen_of f s (Found a) = []
-seen_of f s (Counted b) = []
-seen_of f s (Refused r) = []
+seen_of f s (Ok (Stepped r)) = f s r
+seen_of f s (Ok Done) = []
+seen_of f s (Ok (Displayed w)) = []
+seen_of f s (Ok (Found a)) = []
+seen_of f s (Ok (Counted b)) = []
+seen_of f s (Err r) = []
 
 abbrev pub seen_in : (Machine → Report → List ℕ) → List CameTo → List ℕ
 seen_in f [] = []

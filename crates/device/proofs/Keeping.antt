@@ -67,12 +67,12 @@ keeps_then c d e f g = record {
 -- a place that is there only where the device answers, or asks to bring
 there : (b : Bool) (p : Option ℕ) (q : ℕ) → cond b p None ≡ Some q → p ≡ Some q
 there true p q e = e
-there false p q e = let z : ◌≡◌ {A = ℕ} 0 1 = cc in absurd (omega arith)
+there false p q e = absurd cc
 
 brings : (a : Asking) (p : Option ℕ) (q : ℕ) → when_brings a p None ≡ Some q → (a ≡ Bring) × (p ≡ Some q)
-brings Nothing p q e = let z : ◌≡◌ {A = ℕ} 0 1 = cc in absurd (omega arith)
+brings Nothing p q e = absurd cc
 brings Bring p q e = (refl, e)
-brings Take p q e = let z : ◌≡◌ {A = ℕ} 0 1 = cc in absurd (omega arith)
+brings Take p q e = absurd cc
 
 pub channel_lawful_by : (m : Meaning) (ch : ChannelMeaning) → ChannelParts m ch → ChannelLawful m ch
 channel_lawful_by m ch p = record {
@@ -102,7 +102,7 @@ lawful_by m p ch = record {
 -- a device that no channel serves has nothing to show of one
 pub no_channel_lawful : (m : Meaning) → ChannelLawful m no_channel
 no_channel_lawful m = channel_lawful_by m no_channel (record {
-  within = λ c p a e. let z : ◌≡◌ {A = ℕ} 0 1 = cc in absurd (omega arith);
+  within = λ c p a e. absurd cc;
   brought = λ c a. keeps_same;
   taken = λ c w a. keeps_same;
   finished = λ c go_on tell. keeps_same;

@@ -1,3 +1,5 @@
 pub mod Meaning
 pub mod Calls
 pub mod Laws
+pub mod Texts
+pub mod Orders

@@ -1,4 +1,9 @@
 // What a device may answer.
+ghost use Rattle.std.specs.Prelude.{Some};
+ghost use Rattle.device.specs.Texts.{fault_text};
+
+use std::error::Error;
+use std::fmt;
 
 // Why a device turned a command down.
 #[derive(Clone, Copy, PartialEq, Eq, Debug)]
@@ -8,6 +13,19 @@ pub enum DeviceFault {
     // it is at work, and this is another function than Control
     Busy,
 }
+
+impl fmt::Display for DeviceFault {
+    ghost output = { λ fault. Some (fault_text fault) };
+
+    fn fmt<W: fmt::Write>(&self, f: &mut fmt::Formatter<W>) -> fmt::Result {
+        match self {
+            DeviceFault::NotTaken => write!(f, "not taken"),
+            DeviceFault::Busy => write!(f, "busy"),
+        }
+    }
+}
+
+impl Error for DeviceFault {}
 
 // What a channel device wants of its channel.
 #[derive(Clone, Copy, PartialEq, Eq, Debug)]

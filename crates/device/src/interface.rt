@@ -6,15 +6,16 @@ ghost use Rattle.device.specs.Calls.{command_answer, command_control, sense_answ
 ghost use Rattle.device.specs.Laws.{Lawful};
 
 use crate::answer::{Asking, DeviceFault};
-
-// A make, by its number. A fault record carries it: generic code reads it by the method `kind`, whose contract fixes it.
-pub trait Make {
-    const KIND: u32;
-}
+use crate::control::ControlWord;
+use crate::table::TableEnd;
 
 // Areas, functions, modifiers and words are plain numbers, and any of them may be given.
 pub trait Device {
-    type Of: Make;
+    // The number of its make, which fault records carry. The check takes it in an impl that has type or const parameters or none, and
+    // not yet in one for a type with a lifetime: a make that borrows has what it borrows in a type parameter.
+    ghost KIND_NUMBER: { ℕ };
+
+    const KIND_NUMBER: u32;
 
     // numbers from which all that the device does follows, the number of words left among them
     ghost control: { Self → List ℕ };
@@ -24,15 +25,20 @@ pub trait Device {
 
     ghost means: { Meaning };
 
+    // the make's number is the one that it means
+    ghost kinded: { means.kind ≡ KIND_NUMBER };
+
     // what every make shows of its meaning
     ghost lawful: { Lawful means };
 
     // the words number what control tells
     ghost numbered: { (s : Self) → length (words s) ≡ means.left (control s) };
 
-    // the number of its make: each make answers `Self::Of::KIND`
     fn kind(&self) -> u32
-        ensures { result ≡ means.kind };
+        ensures { result ≡ means.kind }
+    {
+        Self::KIND_NUMBER
+    }
 
     fn answers_to(&self, area: u32) -> bool
         ensures { result ≡ means.answers (control self.now) area };
@@ -48,9 +54,9 @@ pub trait Device {
     fn line(&self) -> bool
         ensures { result ≡ means.line (control self.now) };
 
-    fn command(&mut self, area: u32, function: u32, modifier: u32) -> Result<(), DeviceFault>
-        ensures answer { result ≡ command_answer means (control self.old) area function }
-        ensures control { control self.new ≡ command_control means (control self.old) area function modifier }
+    fn command(&mut self, order: ControlWord) -> Result<(), DeviceFault>
+        ensures answer { result ≡ command_answer means (control self.old) order.area order.function }
+        ensures control { control self.new ≡ command_control means (control self.old) order.area order.function order.modifier }
         ensures words { words self.new ≡ words self.old };
 
     fn sense(&mut self, area: u32, modifier: u32) -> u16
@@ -98,7 +104,7 @@ pub trait ChannelDevice: Device {
         ensures words { Self.Device.words self.new ≡ Self.Device.words self.old };
 
     // ends a table
-    fn finish(&mut self, go_on: bool, tell: bool)
-        ensures control { Self.Device.control self.new ≡ Self.Device.means.channel.finished (Self.Device.control self.old) go_on tell }
+    fn finish(&mut self, end: TableEnd)
+        ensures control { Self.Device.control self.new ≡ Self.Device.means.channel.finished (Self.Device.control self.old) end.go_on end.tell }
         ensures words { Self.Device.words self.new ≡ Self.Device.words self.old };
 }

@@ -2,5 +2,7 @@
 #![tactic(auto)]
 
 pub mod answer;
+pub mod control;
 pub mod function;
 pub mod interface;
+pub mod table;

@@ -3,19 +3,19 @@ ghost use Rattle.std.specs.Prelude.{[], refl};
 ghost use Rattle.device_demo.specs.Absent.{absent, absent_lawful};
 
 use device::answer::{Asking, DeviceFault};
-use device::interface::{ChannelDevice, Device, Make};
+use device::control::ControlWord;
+use device::interface::{ChannelDevice, Device};
+use device::table::TableEnd;
 
-pub struct AbsentMake;
-
-impl Make for AbsentMake {
-    const KIND: u32 = 9;
-}
-
-#[derive(Drop)]
+#[derive(Clone, Copy, PartialEq, Eq, Debug, Default)]
 pub struct Absent;
 
 impl Device for Absent {
-    type Of = AbsentMake;
+    ghost KIND_NUMBER = { 9 };
+
+    const KIND_NUMBER: u32 = 9;
+
+    ghost kinded = { refl };
 
     ghost control = { λ _. [] };
 
@@ -26,10 +26,6 @@ impl Device for Absent {
     ghost lawful = { absent_lawful };
 
     ghost numbered = { λ _. refl };
-
-    fn kind(&self) -> u32 {
-        Self::Of::KIND
-    }
 
     fn answers_to(&self, _area: u32) -> bool {
         false
@@ -47,7 +43,7 @@ impl Device for Absent {
         false
     }
 
-    fn command(&mut self, _area: u32, _function: u32, _modifier: u32) -> Result<(), DeviceFault> {
+    fn command(&mut self, _order: ControlWord) -> Result<(), DeviceFault> {
         Err(DeviceFault::NotTaken)
     }
 
@@ -77,5 +73,5 @@ impl ChannelDevice for Absent {
 
     fn take(&mut self, _word: u16) {}
 
-    fn finish(&mut self, _go_on: bool, _tell: bool) {}
+    fn finish(&mut self, _end: TableEnd) {}
 }

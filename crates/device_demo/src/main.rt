@@ -5,12 +5,14 @@ mod absent;
 
 use absent::Absent;
 use device::answer::{Asking, DeviceFault};
+use device::control::ControlWord;
 use device::function::{INITIALIZE_READ, INITIALIZE_WRITE};
 use device::interface::{ChannelDevice, Device};
+use device::table::TableEnd;
 use pair::Pair;
-use recorder::Recorder;
-use scanner::Scanner;
-use std::io;
+use recorder::{Recorder, Tally};
+use scanner::{Readings, Scanner};
+use std::{fmt, io};
 use terminal::setup::Setup;
 
 const AREA: u32 = 7;
@@ -21,24 +23,38 @@ const GAP: u32 = 3;
 
 const READINGS: [u16; 3] = [1_200, 1_207, 1_193];
 
-fn answer_text(answer: Result<(), DeviceFault>) -> &'static str {
-    match answer {
-        Ok(()) => "accepted",
-        Err(DeviceFault::NotTaken) => "not taken",
-        Err(DeviceFault::Busy) => "busy",
+// How a device answered a command, as it is printed.
+#[derive(Clone, Copy, PartialEq, Eq, Debug)]
+struct Answer(Result<(), DeviceFault>);
+
+impl fmt::Display for Answer {
+    fn fmt<W: fmt::Write>(&self, f: &mut fmt::Formatter<W>) -> fmt::Result {
+        match self.0 {
+            Ok(()) => write!(f, "accepted"),
+            Err(fault) => write!(f, "{fault}"),
+        }
+    }
+}
+
+// The command that starts a device, in its area.
+fn start(area: u32, function: u32) -> ControlWord {
+    ControlWord {
+        area,
+        function,
+        modifier: 0,
     }
 }
 
 fn print_control(rt: &HostRuntime, scanner: &Scanner<'_>) -> io::Result<()> {
-    let [area, gap, operating, wait, line, left] = scanner.control();
+    let [area, gap, operating, wait, line, left] = scanner::control(scanner);
     println!(rt;
         "    area {area} gap {gap} operating {operating} wait {wait} line {line} left {left}"
     )
 }
 
 fn print_command(rt: &HostRuntime, scanner: &mut Scanner<'_>, function: u32) -> io::Result<()> {
-    let text = answer_text(scanner.command(AREA, function, 0));
-    println!(rt; "command, area {AREA}, function {function}: {text}")?;
+    let answer = Answer(scanner.command(start(AREA, function)));
+    println!(rt; "command, area {AREA}, function {function}: {answer}")?;
     print_control(rt, scanner)
 }
 
@@ -57,7 +73,10 @@ fn print_cycle(rt: &HostRuntime, scanner: &mut Scanner<'_>, cycle: u32) -> io::R
 }
 
 fn print_end(rt: &HostRuntime, scanner: &mut Scanner<'_>) -> io::Result<()> {
-    scanner.finish(false, true);
+    scanner.finish(TableEnd {
+        go_on: false,
+        tell: true,
+    });
     println!(rt; "finish, not going on, telling")?;
     print_control(rt, scanner)?;
     let status = scanner.sense(AREA, 1);
@@ -66,7 +85,7 @@ fn print_end(rt: &HostRuntime, scanner: &mut Scanner<'_>) -> io::Result<()> {
 }
 
 fn show_scanner(rt: &HostRuntime, setup: &Setup) -> io::Result<()> {
-    let mut scanner = Scanner::make(setup, &READINGS);
+    let mut scanner = Scanner::make(setup, Readings::new(&READINGS));
     println!(rt; "a scanner with three readings, at rest")?;
     print_control(rt, &scanner)?;
     print_command(rt, &mut scanner, INITIALIZE_WRITE)?;
@@ -80,20 +99,22 @@ fn show_scanner(rt: &HostRuntime, setup: &Setup) -> io::Result<()> {
 
 // A pair in a pair: a scanner, and behind it a recorder with a device that refuses everything. All three are one device here.
 fn show_pair(rt: &HostRuntime, setup: &Setup, other: &Setup) -> io::Result<()> {
-    let inner = Pair::make(Recorder::make(other), Absent);
-    let mut pair = Pair::make(Scanner::make(setup, &READINGS), inner);
+    let inner = Pair::make(Recorder::make(other, Tally::new()), Absent);
+    let mut pair = Pair::make(Scanner::make(setup, Readings::new(&READINGS)), inner);
     let kind = pair.kind();
     println!(rt;
         "a scanner in area {AREA} paired with a recorder in area {OTHER_AREA}, kind {kind}"
     )?;
-    let start = answer_text(pair.command(OTHER_AREA, INITIALIZE_WRITE, 0));
-    println!(rt; "start of the recorder: {start}")?;
-    let busy = answer_text(pair.command(AREA, INITIALIZE_READ, 0));
-    println!(rt; "start of the scanner: {busy}")?;
+    let first = Answer(pair.command(start(OTHER_AREA, INITIALIZE_WRITE)));
+    println!(rt; "start of the recorder: {first}")?;
+    let second = Answer(pair.command(start(AREA, INITIALIZE_READ)));
+    println!(rt; "start of the scanner: {second}")?;
     pair.take(4_660);
     let word = pair.get(AREA);
     println!(rt; "the channel hands over 4660; a get in area {AREA} brings {word}")?;
-    let [area, gap, operating, wait, line, count, latest] = pair.second().first().control();
+    let [area, gap, operating, wait, line, count, latest] = recorder::control(
+        pair.second().first(),
+    );
     println!(rt;
         "    area {area} gap {gap} operating {operating} wait {wait} line {line} count {count} latest {latest}"
     )
@@ -115,6 +136,6 @@ fn main(rt: HostRuntime) -> io::Result<()> {
     }
     show_scanner(&rt, &setup)?;
     show_pair(&rt, &setup, &other)?;
-    let text = answer_text(Absent.command(AREA, INITIALIZE_READ, 0));
-    println!(rt; "a start of the device that refuses everything: {text}")
+    let answer = Answer(Absent.command(start(AREA, INITIALIZE_READ)));
+    println!(rt; "a start of the device that refuses everything: {answer}")
 }

@@ -1,18 +1,24 @@
--- Which of area 0's plans it is.
-use Rattle.std.proofs.Common.{◌≡◌, ℕ, Bool, true, false, cond, ◌&&◌, eqb, ltb, Option, sym, ap, ◌∙◌, ap₂}
-use Rattle.engine.specs.declared.control.ControlWord.{ControlWord}
-use Rattle.engine.specs.Plan.{drop, done, look, perform}
-use Rattle.engine.specs.Xio.{asks_for, sense_switches, sense_interrupt, area_zero, answering, with_device, by_area}
+-- Which of XIO's plans it is.
+use Rattle.std.proofs.Common.{◌≡◌, ℕ, ◌<◌, Bool, false, cond, eqb, Option, sym, ap, ◌∙◌, ap₂}
+use Rattle.std.proofs.lemmas.Bool.{lt-ltb}
+use Rattle.device.specs.declared.control.ControlWord.{ControlWord}
+use Rattle.engine.specs.Plan.{Plan, drop, done, look, perform}
+use Rattle.engine.specs.Xio.{nobody, sense_switches, sense_interrupt, area_zero, answering, with_device, by_area}
 use Rattle.engine.specs.declared.place.Position.{Position}
 use Rattle.engine.specs.Machine.{Machine, dev_at}
 use Rattle.engine.specs.Makes.{Makes}
 
-module _ (at address : ℕ) (c : ControlWord) (h0 : asks_for c 1 0 ≡ false) (h1 : asks_for c 1 1 ≡ false) (h2 : asks_for c 2 2 ≡ false) where
-  pub zero_switches : asks_for c 7 2 ≡ true → area_zero at address c ≡ sense_switches
-  zero_switches h3 = rw (h0, h1, h2, h3)
+module _ (at address : ℕ) (c : ControlWord) where
+  asking : ℕ → ℕ → Plan
+  asking function modifier = area_zero at address (record { area = c.area; function = function; modifier = modifier })
 
-  pub zero_drop : asks_for c 7 2 ≡ false → (eqb c.function 4 && ltb c.modifier 24) ≡ true → area_zero at address c ≡ drop c.modifier done
-  zero_drop h3 h4 = rw (h0, h1, h2, h3, h4)
+  pub zero_switches : c.function ≡ 7 → c.modifier ≡ 2 → area_zero at address c ≡ sense_switches
+  unfolding asking
+  zero_switches f k = ap₂ asking f k
+
+  pub zero_drop : c.function ≡ 4 → c.modifier < 24 → area_zero at address c ≡ drop c.modifier done
+  unfolding asking
+  zero_drop f k = ap (λ (x : ℕ). asking x c.modifier) f ∙ ap (λ (b : Bool). cond b (drop c.modifier done) (nobody at)) (lt-ltb c.modifier 24 k)
 
 -- an area of devices: which device it is
 pub area_device : (m : Makes) (n at address : ℕ) (c : ControlWord) (s : Machine) (o : Option Position) → eqb c.function 3 ≡ false → eqb c.area 0 ≡ false

@@ -1,15 +1,14 @@
 -- Cycles, from their parts.
-use Rattle.std.proofs.Common.{◌≡◌, ℕ, suc, ◌+◌, ◌<◌, ◌≤◌, Bool, List, length, Some, None, Option, sym, refl, ap, ◌∙◌, subst, arith}
+use Rattle.std.proofs.Common.{◌≡◌, ℕ, zero, suc, ◌+◌, ◌<◌, Bool, List, [], ◌∷◌, get_or, length, Some, None, Option, sym, refl, ap, ◌∙◌, subst, arith}
 use Rattle.levels.specs.Choice.{Chosen}
-use Rattle.works.specs.declared.panel.Counts.{Counts}
 use Rattle.engine.specs.declared.place.By.TheVariants.{Program}
 use Rattle.engine.specs.declared.place.ChannelNumber.{ChannelNumber}
-use Rattle.engine.specs.declared.state.Processor.{Processor}
-use Rattle.engine.specs.Machine.{Machine, with_tally}
+use Rattle.engine.specs.declared.place.ChannelNumber.TheVariants.{Channel1, Channel2, Channel3}
+use Rattle.engine.specs.Machine.{Machine}
 use Rattle.engine.specs.Events.{passed}
 use Rattle.engine.specs.Makes.{Makes, calling_all}
-use Rattle.engine.specs.Cycle.{Reference, refer, one_program, one_stolen, one_idle, with_counts, counted, tell, transferring, finished, steal, chosen, channel_in, served, turns, offers, cycle, idle_cycle}
-use Rattle.engine.specs.Code.{spent, Keeps, left_turns}
+use Rattle.engine.specs.Cycle.{Reference, refer, one_program, one_stolen, one_idle, counted, tell, transferring, finished, steal, chosen, channel_in, served, turns, offers, cycle, idle_cycle}
+use Rattle.engine.specs.Code.{left_turns}
 
 -- a stolen cycle
 pub steal_by : (m : Makes) (n : ChannelNumber) (s t w : Machine) → t ≡ (transferring m n s).machine → w ≡ (calling_all m passed (counted one_stolen t)).machine
@@ -17,50 +16,20 @@ pub steal_by : (m : Makes) (n : ChannelNumber) (s t w : Machine) → t ≡ (tran
 unfolding steal tell
 steal_by m n s t w e k = ap (λ (x : Machine). (finished m n x).machine) (k ∙ ap (λ (x : Machine). (calling_all m passed (counted one_stolen x)).machine) e)
 
--- one more cycle in the tally
-abbrev pub one_more : (Counts → Counts) → Processor → Processor
-one_more f p = with_tally (with_counts (f p.tally.counts) p.tally) p
-
-pub keeps_more : {j k : ℕ} (p q r : Processor) → Keeps j p q → Keeps k q r → Keeps (j + k) p r
-keeps_more p q r a b = record { registers = b.registers ∙ a.registers; books = b.books ∙ a.books; grows = let x = a.grows in let y = b.grows in omega arith }
-
-pub keeps_stolen : (p q r t : Processor) → Keeps 1 p q → r ≡ one_more one_stolen q → Keeps 0 r t → Keeps 2 p t
-keeps_stolen p q r t a e b =
-    let z = ap spent e in
-    record {
-      registers = b.registers ∙ ap (λ (x : Processor). x.works.registers) e ∙ a.registers;
-      books = b.books ∙ ap (λ (x : Processor). x.books) e ∙ a.books;
-      grows = let x = a.grows in let y = b.grows in omega arith;
-    }
-
 -- a chosen place is one of the three
 pub few_chosen : {R : Type 0} (p : R → Bool) (xs : List R) (o : Option ℕ) → length xs ≡ 3 → Chosen p xs o → (i : ℕ) → o ≡ Some i → i < 3
 few_chosen {R} p xs o e h i k = subst (λ (n : ℕ). i < n) e (subst (λ (x : Option ℕ). Chosen p xs x) k h).0
 
-pub keeps_nothing : {n : ℕ} (p : Processor) → Keeps n p p
-keeps_nothing p = record { registers = refl; books = refl; grows = omega arith }
-
-pub keeps_program : (p q r t : Processor) → Keeps 6 p q → Keeps 1 q r → t ≡ one_more one_program r → Keeps 8 p t
-keeps_program p q r t a b e =
-    let z = ap spent e in
-    record {
-      registers = ap (λ (x : Processor). x.works.registers) e ∙ b.registers ∙ a.registers;
-      books = ap (λ (x : Processor). x.books) e ∙ b.books ∙ a.books;
-      grows = let x = a.grows in let y = b.grows in omega arith;
-    }
-
-pub keeps_idle : (p q t : Processor) → Keeps 6 p q → t ≡ one_more one_idle q → Keeps 8 p t
-keeps_idle p q t a e =
-    let z = ap spent e in
-    record {
-      registers = ap (λ (x : Processor). x.works.registers) e ∙ a.registers;
-      books = ap (λ (x : Processor). x.books) e ∙ a.books;
-      grows = let x = a.grows in omega arith;
-    }
-
 -- a turn of the offers
 pub turn_none : (m : Makes) (b : Option ℕ) (n : ℕ) (s : Machine) → chosen m b s ≡ None → (turns (suc n) m b s).machine ≡ s
 turn_none m b n s e = ap (λ (o : Option ℕ). (served o m (turns n m) s).machine) e
+
+-- the channels as the code lists them
+pub listed : (i : ℕ) → i < 3 → get_or (Channel1 ∷ (Channel2 ∷ (Channel3 ∷ []))) i Channel1 ≡ channel_in i
+listed zero h = refl
+listed (suc zero) h = refl
+listed (suc (suc zero)) h = refl
+listed (suc (suc (suc i))) h = absurd (omega arith)
 
 pub turn_some : (m : Makes) (b : Option ℕ) (i n : ℕ) (s t : Machine) (c : ChannelNumber) → chosen m b s ≡ Some i → c ≡ channel_in i → t ≡ (steal m c s).machine
     → (turns (suc n) m b s).machine ≡ (turns n m (Some (i + 1)) t).machine
@@ -89,9 +58,6 @@ pub offers_two : (m : Makes) (s t w x : Machine) (r q z : Option ℕ) (b d : ℕ
 unfolding offers
 offers_two m s t w x r q z b d h e k f l =
     sym (h 2 ∙ ap (λ (y : Option ℕ). left_turns 2 m y t) e ∙ k 1 ∙ ap (λ (y : Option ℕ). left_turns 1 m y w) f ∙ l 0 ∙ last_turn m z x)
-
-pub keeps_wider : {j : ℕ} (k : ℕ) (p q : Processor) → j ≤ k → Keeps j p q → Keeps k p q
-keeps_wider k p q h a = record { registers = a.registers; books = a.books; grows = let x = a.grows in omega arith }
 
 -- a program cycle and an idle one
 pub cycle_by : (m : Makes) (r : Reference) (s o x t : Machine) → o ≡ (offers m s).machine → x ≡ (refer Program r o).machine → t ≡ (calling_all m passed (counted one_program x)).machine

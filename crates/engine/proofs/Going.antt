@@ -1,5 +1,5 @@
 -- How a plan goes on, from what the code did.
-use Rattle.std.proofs.Common.{◌≡◌, ℕ, ◌+◌, ◌*◌, ◌%◌, Bool, true, false, cond, List, length, Option, sym, refl, ap, ◌∙◌, ap₂}
+use Rattle.std.proofs.Common.{◌≡◌, ℕ, ◌+◌, ◌*◌, ◌%◌, Bool, true, false, cond, List, length, Option, sym, ap, ◌∙◌, ap₂}
 use Rattle.instruction.specs.declared.words.Index.{Index}
 use Rattle.instruction.specs.declared.words.Fields.{Fields}
 use Rattle.levels.specs.declared.state.Service.{Service}
@@ -12,13 +12,9 @@ use Rattle.engine.specs.declared.state.Books.{Books}
 use Rattle.engine.specs.Machine.{Machine, with_registers, with_service, work, words_of_size}
 use Rattle.engine.specs.Makes.{Makes}
 use Rattle.engine.specs.Plan.{Plan, done, act, look, read, store, mark, perform}
-use Rattle.engine.specs.Instructions.{change, i_set, advanced, skip_if, leave, loaded, branching, branch_store, modify_memory, store_status, protect, second, indirectly, indexed, formed_of, formed, value_of, odd, single, double}
+use Rattle.engine.specs.Instructions.{change, i_set, advanced, skip_if, leave, branching, branch_store, modify_memory, store_status, protect, second, indirectly, indexed, formed_of, formed, value_of, odd, double}
 use Rattle.engine.specs.Xio.{xio}
 use Rattle.engine.specs.Code.{Fits}
-
--- the core still fits
-pub fits_on : (p q : Processor) (u v : List ℕ) → Fits p u → q.books ≡ p.books → length v ≡ length u → Fits q v
-fits_on p q u v f b l = l ∙ f ∙ ap (λ (x : Books). words_of_size x.size) (sym b)
 
 -- a change by the size that the code has is one by the core's length
 pub by_length : {X : Type 0} (g : ℕ → X) (t : X) (p q : Processor) (u : List ℕ) → Fits p u → q.books ≡ p.books
@@ -47,11 +43,6 @@ module _ (m : Makes) where
       ∙ changed (advanced n 1) (k w (advanced n 1 r)) s t e
       ∙ ap (λ (y : Registers). (perform m (k w y) (work (with_registers t) s)).machine) (sym h)
 
-  pub formed_short : (n : ℕ) (tag : Option Index) (f : Fields) (r : Registers) (s : Machine) (v : ℕ) → f.long ≡ false
-      → v ≡ indexed tag r.i f.displacement r → (k : ℕ → Registers → Plan) → To (formed_of f.long n tag f r k) s (k v r) s
-  formed_short n tag f r s v l h k =
-      ap (λ (b : Bool). (perform m (formed_of b n tag f r k) s).machine) l ∙ ap (λ (a : ℕ). (perform m (k a r) s).machine) (sym h)
-
   pub formed_long : (n : ℕ) (tag : Option Index) (f : Fields) (r t z : Registers) (s₀ s₁ s₂ : Machine) (w d v : ℕ) → f.long ≡ true
       → ((k : ℕ → Registers → Plan) → To (second n r k) s₀ (k w t) s₁) → d ≡ indexed tag 0 w t
       → ((k : ℕ → Plan) → To (indirectly f.indirect d k) s₁ (k v) s₂) → z ≡ t
@@ -63,10 +54,6 @@ module _ (m : Makes) where
       ∙ i (λ (ea : ℕ). k ea t)
       ∙ ap (λ (x : Registers). (perform m (k v x) s₂).machine) (sym e)
 
-  pub value_short : (n : ℕ) (f : Fields) (r : Registers) (s : Machine) → f.long ≡ false
-      → (k : ℕ → Registers → Plan) → To (value_of n f r k) s (k f.displacement r) s
-  value_short n f r s l k = ap (λ (b : Bool). (perform m (cond b (second n r (λ (a : ℕ) (x : Registers). indirectly f.indirect a (λ (v : ℕ). k v x))) (k f.displacement r)) s).machine) l
-
   pub value_long : (n : ℕ) (f : Fields) (r t z : Registers) (s₀ s₁ s₂ : Machine) (w v : ℕ) → f.long ≡ true
       → ((k : ℕ → Registers → Plan) → To (second n r k) s₀ (k w t) s₁)
       → ((k : ℕ → Plan) → To (indirectly f.indirect w k) s₁ (k v) s₂) → z ≡ t
@@ -76,12 +63,6 @@ module _ (m : Makes) where
       ∙ g (λ (a : ℕ) (x : Registers). indirectly f.indirect a (λ (v : ℕ). k v x))
       ∙ i (λ (v : ℕ). k v t)
       ∙ ap (λ (x : Registers). (perform m (k v x) s₂).machine) (sym e)
-
-  pub single_goes : (n : ℕ) (f : Fields) (r t : Registers) (s₀ s₁ s₂ : Machine) (a v : ℕ)
-      → ((k : ℕ → Registers → Plan) → To (formed_of f.long n f.tag f r k) s₀ (k a t) s₁)
-      → ((k : ℕ → Plan) → To (read a k) s₁ (k v) s₂)
-      → (k : ℕ → Plan) → To (single n f r k) s₀ (k v) s₂
-  single_goes n f r t s₀ s₁ s₂ a v g h k = g (λ (ea : ℕ) (x : Registers). read ea k) ∙ h k
 
   pub double_goes : (n : ℕ) (f : Fields) (r t : Registers) (s₀ s₁ s₂ s₃ : Machine) (a b high low v : ℕ)
       → ((k : ℕ → Registers → Plan) → To (formed_of f.long n f.tag f r k) s₀ (k a t) s₁)
@@ -179,9 +160,6 @@ module _ (m : Makes) where
   pub as_long : (b : Bool) (p q : Plan) (s t : Machine) → b ≡ true → To p s done t → To (cond b p q) s done t
   as_long b p q s t e g = ap (λ (x : Bool). (perform m (cond x p q) s).machine) e ∙ g
 
-  pub as_short : (b : Bool) (p q : Plan) (s t : Machine) → b ≡ false → To q s done t → To (cond b p q) s done t
-  as_short b p q s t e g = ap (λ (x : Bool). (perform m (cond x p q) s).machine) e ∙ g
-
   -- BSI, behind what formed its address
   pub linked_goes : (n a v : ℕ) (r : Registers) (s t : Machine) → ((p : Plan) → To (store a r.i p) s p t) → v ≡ (a + 1) % n
       → To (branch_store n a r) s done (work (with_registers (with_i v t.processor.works.registers)) t)
@@ -204,13 +182,6 @@ module _ (m : Makes) where
       as_long f.long (branching n f r (λ ea r. branch_store n ea r)) (formed n f r (λ ea r. branch_store n ea r)) s₀ s₂ e
       (g (λ (ea : ℕ) (r : Registers). branch_store n ea r) ∙ link_goes n l (advanced n 1 r) z a s₁ s₂ h same i)
 
-  pub link_short : (n l : ℕ) (f : Fields) (r z : Registers) (a : ℕ) (s₀ s₁ s₂ : Machine) → f.long ≡ false
-      → ((k : ℕ → Registers → Plan) → To (formed n f r k) s₀ (k a z) s₁) → l ≡ n → To (branch_store l a z) s₁ done s₂
-      → To (cond f.long (branching n f r (λ ea r. branch_store n ea r)) (formed n f r (λ ea r. branch_store n ea r))) s₀ done s₂
-  link_short n l f r z a s₀ s₁ s₂ e g same i =
-      as_short f.long (branching n f r (λ ea r. branch_store n ea r)) (formed n f r (λ ea r. branch_store n ea r)) s₀ s₂ e
-      (g (λ (ea : ℕ) (r : Registers). branch_store n ea r) ∙ link_goes n l z z a s₁ s₂ refl same i)
-
   pub leave_goes : (f : Fields) (p : Plan) (s : Machine) (v : Service)
       → v ≡ cond f.branch_out (ended s.processor.works.service) s.processor.works.service
       → To (leave f p) s p (work (with_service v) s)
@@ -232,13 +203,7 @@ module _ (m : Makes) where
       ∙ leave_goes f (change (i_set n a) done) s₁ v h
       ∙ changed (i_set n a) done (work (with_service v) s₁) t i)
 
-  -- LDX, STX, STO and STD
-  pub loaded_goes : (n : ℕ) (f : Fields) (r t z : Registers) (v : ℕ) (s₀ s₁ : Machine)
-      → ((k : ℕ → Registers → Plan) → To (value_of n f r k) s₀ (k v z) s₁) → t ≡ loaded n f.tag v s₁.processor.works.registers
-      → To (value_of n f r (λ v r. change (loaded n f.tag v) done)) s₀ done (work (with_registers t) s₁)
-  loaded_goes n f r t z v s₀ s₁ g e =
-      g (λ (v : ℕ) (r : Registers). change (loaded n f.tag v) done) ∙ changed (loaded n f.tag v) done s₁ t e
-
+  -- STX, STO and STD
   pub stored_goes : (n : ℕ) (tag : Option Index) (f : Fields) (h : Registers → ℕ) (r z : Registers) (a v : ℕ) (s₀ s₁ s₂ : Machine)
       → ((k : ℕ → Registers → Plan) → To (formed_of f.long n tag f r k) s₀ (k a z) s₁) → v ≡ h z
       → ((p : Plan) → To (store a v p) s₁ p s₂)

@@ -3,7 +3,7 @@ use Rattle.std.proofs.Common.{◌≡◌, ℕ, Bool, true, false, Ok, Err, Result
 use Rattle.device.specs.declared.answer.DeviceFault.{DeviceFault}
 use Rattle.works.specs.declared.fault.Fault.{Fault}
 use Rattle.works.specs.Faults.{by_channel, recorded}
-use Rattle.engine.specs.declared.control.ControlWord.{ControlWord}
+use Rattle.device.specs.declared.control.ControlWord.{ControlWord}
 use Rattle.engine.specs.declared.place.Position.{Position}
 use Rattle.engine.specs.Machine.{Machine, position_number}
 use Rattle.engine.specs.Makes.{Makes, make_at}

@@ -1,13 +1,9 @@
 -- A reference to core, from what the code did.
-use Rattle.std.proofs.Common.{◌≡◌, ℕ, ◌%◌, ◌<◌, Bool, true, false, List, length, get_or, set, sym, refl, ap, ◌∙◌, subst, arith}
+use Rattle.std.proofs.Common.{◌≡◌, ℕ, ◌%◌, ◌<◌, Bool, true, false, List, length, get_or, set, sym, ap, ◌∙◌, arith}
 use Rattle.storage.specs.Word.{data_of, is_protected, parity_right, word_of, stored}
-use Rattle.works.specs.declared.fault.Fault.{Fault}
 use Rattle.engine.specs.declared.place.By.{By}
 use Rattle.engine.specs.declared.state.Processor.{Processor}
-use Rattle.engine.specs.declared.state.Works.{Works}
-use Rattle.engine.specs.declared.place.ChannelNumber.{ChannelNumber}
-use Rattle.works.specs.declared.channel.Channel.{Channel}
-use Rattle.engine.specs.Machine.{with_core, with_processor, with_works, with_channel, words_of_size}
+use Rattle.engine.specs.Machine.{with_core, with_processor, words_of_size}
 use Rattle.engine.specs.Faults.{fault_of, parity_cause, protect_cause, faulted, raise}
 use Rattle.engine.specs.Cycle.{reading, storing, marking, parity_checked, checked_store, marked, refer}
 use Rattle.engine.specs.Code.{Fits, Refers, Keeps}
@@ -15,12 +11,6 @@ use Rattle.engine.specs.Code.{Fits, Refers, Keeps}
 -- an address by the core's length is one by its size
 pub same_place : (p : Processor) (u : List ℕ) (a x : ℕ) → Fits p u → x ≡ a % words_of_size p.books.size → x ≡ a % length u
 same_place p u a x f e = e ∙ ap (λ (n : ℕ). a % n) (sym f)
-
-pub keeps_same : (p : Processor) → Keeps 1 p p
-keeps_same p = record { registers = refl; books = refl; grows = omega arith }
-
-pub keeps_fault : (f : Fault) (p q : Processor) → q ≡ faulted f p → Keeps 1 p q
-keeps_fault f p q e = subst (λ (x : Processor). Keeps 1 p x) (sym e) (record { registers = refl; books = refl; grows = omega arith })
 
 -- reading
 pub read_right : (by : By) (a x : ℕ) (p : Processor) (u : List ℕ) → x ≡ a % length u → parity_right (get_or u x 0) ≡ true → Refers by (reading a) p u p u
@@ -75,7 +65,4 @@ mark_off by a on w p u k o = ap (λ (b : Bool). (marked b (a % length u) on w (w
 
 -- what is kept, by what comes after
 pub same_size : {n : ℕ} (p q : Processor) (u : List ℕ) → Fits p u → Keeps n p q → words_of_size q.books.size ≡ length u
-same_size p q u f k = ap (λ b. words_of_size b.size) k.books ∙ sym f
-
-pub keeps_channel : (n : ChannelNumber) (c : Channel) (p q : Processor) (w : Works) → w ≡ with_channel n c q.works → Keeps 1 p q → Keeps 1 p (with_works w q)
-keeps_channel n c p q w e k = subst (λ (x : Works). Keeps 1 p (with_works x q)) (sym e) (record { registers = k.registers; books = k.books; grows = k.grows })
+same_size p q u f k = ap (λ b. words_of_size b.size) k.within.books ∙ sym f

@@ -1,12 +1,13 @@
 -- A channel's work on its own processor, core and device, as the machine's.
-use Rattle.std.proofs.Common.{◌≡◌, ℕ, zero, suc, ◌+◌, ◌-◌, ◌%◌, Bool, true, false, ◌≢◌, List, length, get_or, sym, refl, ap, ◌∙◌, ap₂}
+use Rattle.std.proofs.Common.{◌≡◌, ℕ, ◌%◌, Bool, true, false, List, length, get_or, sym, refl, ap, ◌∙◌, ap₂}
 use Rattle.storage.specs.Word.{data_of, is_protected}
 use Rattle.device.specs.declared.answer.Asking.{Asking}
-use Rattle.device.specs.declared.answer.Asking.TheVariants.{Nothing, Bring, Take}
+use Rattle.device.specs.declared.answer.Asking.TheVariants.{Bring, Take}
 use Rattle.device.specs.Meaning.{Meaning}
+use Rattle.device.specs.declared.table.TableEnd.{TableEnd}
 use Rattle.device.specs.Calls.{bring_place, word_at}
 use Rattle.works.specs.declared.channel.Channel.{Channel}
-use Rattle.works.specs.declared.channel.Channel.TheVariants.{Idle, Head, Data, NextHead}
+use Rattle.works.specs.declared.channel.Channel.TheVariants.{Head, Data, NextHead}
 use Rattle.engine.specs.declared.place.By.{By}
 use Rattle.engine.specs.declared.place.By.TheVariants.{Device}
 use Rattle.engine.specs.declared.place.Position.{Position}
@@ -50,10 +51,6 @@ module _ (n : ChannelNumber) (mean : Meaning) (a : ℕ) where
   asked : (m : Makes) (p : Processor) (u : List ℕ) (d : Dev) (o : Machine) (q : Asking) → make_at (position_of n) m ≡ mean → mean.channel.asks d.control ≡ q → asking_of m n (at_channel n p u d o) ≡ q
   asked m p u d o q e k = ap₂ (λ (x : Meaning) (y : Dev). x.channel.asks y.control) e (dev_back (position_of n) p u d o) ∙ k
 
-  pub moves_nothing : (p : Processor) (u : List ℕ) (d e : Dev) → mean.channel.asks d.control ≡ Nothing → e ≡ d → Serves n mean moving p u d p u e
-  moves_nothing p u d e k h m o w =
-      ap (λ (q : Asking). (moves q m n a (at_channel n p u d o)).machine) (asked m p u d o Nothing w k) ∙ ap (λ (x : Dev). at_channel n p u x o) (sym h)
-
   pub moves_bring : (by : By) (word : ℕ) (p q : Processor) (u v : List ℕ) (d e : Dev) → by ≡ Device (position_of n) mean.kind → mean.channel.asks d.control ≡ Bring
       → word ≡ word_at (bring_place mean.channel d.control) d.words → e ≡ made mean bring d → Refers by (storing a word) p u q v → Serves n mean moving p u d q v e
   unfolding calling
@@ -88,9 +85,6 @@ module _ (n : ChannelNumber) (mean : Meaning) where
       → (transferring m n (at_channel n p u d o)).machine ≡ (transfer c (asking_of m n (at_channel n p u d o)) m n (at_channel n p u d o)).machine
   transfer_at m p u d o c k = ap (λ (x : Channel). (transfer x (asking_of m n (at_channel n p u d o)) m n (at_channel n p u d o)).machine) k
 
-  pub transfer_idle : (p : Processor) (u : List ℕ) (d : Dev) → channel_at n p.works ≡ Idle → Serves n mean (λ m. transferring m n) p u d p u d
-  transfer_idle p u d k m o w = transfer_at m p u d o Idle k
-
   -- a reading by the channel, and its new state
   read_then : (a : ℕ) (by : By) (next : ℕ → ℕ → Channel) (c : Channel) (p q r : Processor) (u : List ℕ) (d : Dev) (word : ℕ)
       → by ≡ Device (position_of n) mean.kind → Refers by (reading a) p u q u → word ≡ data_of (get_or u (a % length u) 0) → c ≡ next (length u) word
@@ -116,52 +110,18 @@ module _ (n : ChannelNumber) (mean : Meaning) where
   transfer_next a by c p q r u d word f b k w e h m o x =
       transfer_at m p u d o (NextHead a) f ∙ read_then a by (λ n v. Head (v % n)) c p q r u d word b k w e h m o x
 
-  pub transfer_data : (a count : ℕ) (go_on tells : Bool) (c : Channel) (p q r : Processor) (u v : List ℕ) (d e : Dev) → channel_at n p.works ≡ Data a count go_on tells
-      → Serves n mean (λ m s. moves (asking_of m n s) m n a s) p u d q v e → c ≡ Data ((a + 1) % length u) (count - 1) go_on tells
-      → r ≡ with_works (with_channel n c q.works) q → Serves n mean (λ m. transferring m n) p u d r v e
-  transfer_data a count go_on tells c p q r u v d e f k w h m o x =
-      transfer_at m p u d o (Data a count go_on tells) f
-      ∙ ap (λ (z : Machine). work (with_channel n (Data ((a + 1) % length u) (count - 1) go_on tells)) z) (k m o x)
-      ∙ ap (λ (z : Channel). at_channel n (with_works (with_channel n z q.works) q) v e o) (sym w)
-      ∙ ap (λ (z : Processor). at_channel n z v e o) (sym h)
-
   -- the end of a table
   finish_at : (m : Makes) (p : Processor) (u : List ℕ) (d : Dev) (o : Machine) (c : Channel) → channel_at n p.works ≡ c
       → (finished m n (at_channel n p u d o)).machine ≡ (ending c m n (at_channel n p u d o)).machine
   finish_at m p u d o c k = ap (λ (x : Channel). (ending x m n (at_channel n p u d o)).machine) k
 
-  -- nowhere but in data with count 0
-  pub Stays : Channel → Type 0
-  Stays c = (m : Makes) (s : Machine) → (ending c m n s).machine ≡ s
-
-  pub finish_not : (p : Processor) (c : Channel) (d : Dev) → channel_at n p.works ≡ c → Stays c → (u : List ℕ) → Serves n mean (λ m. finished m n) p u d p u d
-  unfolding Stays
-  finish_not p c d k q u m o w = finish_at m p u d o c k ∙ q m (at_channel n p u d o)
-
-  pub stays_data : (a count : ℕ) (go_on tells : Bool) → count ≢ 0 → Stays (Data a count go_on tells)
-  unfolding Stays
-  stays_data a zero go_on tells k m s = absurd (k refl)
-  stays_data a (suc c) go_on tells k m s = refl
-
-  pub stays_idle : Stays Idle
-  unfolding Stays
-  stays_idle m s = refl
-
-  pub stays_head : (a : ℕ) → Stays (Head a)
-  unfolding Stays
-  stays_head a m s = refl
-
-  pub stays_next : (a : ℕ) → Stays (NextHead a)
-  unfolding Stays
-  stays_next a m s = refl
-
-  pub finish_data : (a count : ℕ) (go_on tells : Bool) (c : Channel) (p r : Processor) (d e : Dev) → channel_at n p.works ≡ Data a count go_on tells → count ≡ 0
-      → e ≡ made mean (finish go_on tells) d → c ≡ after_table go_on a → r ≡ with_works (with_channel n c p.works) p
+  pub finish_data : (a count : ℕ) (end : TableEnd) (c : Channel) (p r : Processor) (d e : Dev) → channel_at n p.works ≡ Data a count end → count ≡ 0
+      → e ≡ made mean (finish end.go_on end.tell) d → c ≡ after_table end.go_on a → r ≡ with_works (with_channel n c p.works) p
       → (u : List ℕ) → Serves n mean (λ m. finished m n) p u d r u e
   unfolding calling
-  finish_data a count go_on tells c p r d e f z h k w u m o x =
-      finish_at m p u d o (Data a 0 go_on tells) (f ∙ ap (λ (y : ℕ). Data a y go_on tells) z)
-      ∙ ap₂ (λ (y : Meaning) (v : Dev). work (with_channel n (after_table go_on a)) (with_dev (position_of n) (made y (finish go_on tells) v) (at_channel n p u d o))) x (dev_back (position_of n) p u d o)
+  finish_data a count end c p r d e f z h k w u m o x =
+      finish_at m p u d o (Data a 0 end) (f ∙ ap (λ (y : ℕ). Data a y end) z)
+      ∙ ap₂ (λ (y : Meaning) (v : Dev). work (with_channel n (after_table end.go_on a)) (with_dev (position_of n) (made y (finish end.go_on end.tell) v) (at_channel n p u d o))) x (dev_back (position_of n) p u d o)
       ∙ ap₂ (λ (v : Dev) (y : Channel). work (with_channel n y) (with_dev (position_of n) v (at_channel n p u d o))) (sym h) (sym k)
       ∙ ap (λ (v : Machine). work (with_channel n c) v) (dev_over (position_of n) p u d e o)
       ∙ ap (λ (v : Processor). at_channel n v u e o) (sym w)

@@ -1,16 +1,25 @@
 -- What the contracts of the code say, in terms of the definition.
-use Rattle.std.specs.Prelude.{◌≡◌, ℕ, ◌+◌, ◌≤◌, List, length, Some, None, Option}
+use Rattle.std.specs.Prelude.{◌≡◌, ℕ, ◌+◌, ◌<◌, ◌≤◌, List, length, Some, None, Option, Result}
+use Rattle.refusal.specs.declared.Refusal.{Refusal}
+use Rattle.std.specs.Borrow.{MutBor}
 use Rattle.device.specs.Meaning.{Meaning}
 use Rattle.device.specs.declared.interface.Device.{Ghosts}
+use Rattle.instruction.specs.declared.words.Operation.{Operation}
+use Rattle.instruction.specs.declared.words.Fields.{Fields}
+use Rattle.registers.specs.declared.state.Registers.{Registers}
+use Rattle.registers.specs.Parts.{with_i}
 use Rattle.engine.specs.declared.engine.Engine.{Engine}
 use Rattle.engine.specs.declared.place.By.{By}
 use Rattle.engine.specs.declared.place.ChannelNumber.{ChannelNumber}
 use Rattle.engine.specs.declared.state.Processor.{Processor}
+use Rattle.engine.specs.declared.state.Report.{Report}
 use Rattle.engine.specs.Machine.{Machine, Dev, position_of, with_core, with_processor, with_dev, words_of_size}
 use Rattle.engine.specs.Events.{Did}
 use Rattle.engine.specs.Makes.{Makes, make_at}
 use Rattle.engine.specs.Cycle.{Reference, refer, turns}
-use Rattle.engine.specs.Plan.{Plan, perform}
+use Rattle.engine.specs.Plan.{Plan, done, perform}
+use Rattle.engine.specs.Instructions.{operation}
+use Rattle.engine.specs.Step.{lent_right, below_limit, step_answer, step_machine}
 
 -- the core is as long as the processor's books say
 abbrev pub Fits : Processor → List ℕ → Type 0
@@ -24,14 +33,27 @@ spent p = p.tally.counts.program + p.tally.counts.stolen + p.tally.counts.idle +
 abbrev pub Refers : By → Reference → Processor → List ℕ → Processor → List ℕ → Type 0
 Refers by r p u q v = (o : Machine) → (refer by r (with_core u (with_processor p o))).machine ≡ with_core v (with_processor q o)
 
--- a part that no reference changes, and how much the tally may grow
-pub record Keeps (n : ℕ) (p q : Processor) : Type 0 where
-  pub registers : q.works.registers ≡ p.works.registers
+-- what a part of a step asks: a core that fits, and a tally with room for the code's numbers
+pub record Room (n : ℕ) (p : Processor) (u : List ℕ) : Type 0 where
+  pub fits : Fits p u
+  pub small : spent p < n
+
+-- what it leaves: the books as they were, and a tally that grew by at most so many
+pub record Within (n : ℕ) (p q : Processor) : Type 0 where
   pub books : q.books ≡ p.books
   pub grows : spent q ≤ spent p + n
 
+-- what a cycle leaves: the registers too
+pub record Keeps (n : ℕ) (p q : Processor) : Type 0 where
+  pub registers : q.works.registers ≡ p.works.registers
+  pub within : Within n p q
+
+-- what a call makes of the registers and an operand that fits, and what it answers, where only I has moved since r
+abbrev pub Effect : {N T : Type 0} → (N → Type 0) → (MutBor Registers → N → T → MutBor Registers → Type 0) → Registers → (N → Registers → Registers) → (N → T) → Type 0
+Effect {N} {T} fits call r f g = (v : N) (x y : MutBor Registers) (t : T) → fits v → x.now ≡ with_i x.now.i r → call x v t y → (y.now ≡ f v x.now) × (t ≡ g v)
+
 -- a device as the definition has it
-abbrev pub dev : {X Y : Type 0} → Ghosts X Y → X → Dev
+abbrev pub dev : {X : Type 0} → Ghosts X → X → Dev
 dev g x = record { control = g.control x; words = g.words x }
 
 -- what is left of the offers after a turn: nothing if nobody was chosen, else so many turns behind the one that was
@@ -46,18 +68,27 @@ at_channel n p u x o = with_core u (with_processor p (with_dev (position_of n) x
 abbrev pub Serves : ChannelNumber → Meaning → (Makes → Machine → Did) → Processor → List ℕ → Dev → Processor → List ℕ → Dev → Type 0
 Serves n mean f p u x q v y = (m : Makes) (o : Machine) → make_at (position_of n) m ≡ mean → (f m (at_channel n p u x o)).machine ≡ at_channel n q v y o
 
-module _ {A P B Q C R D S : Type 0} (a : Ghosts A P) (b : Ghosts B Q) (c : Ghosts C R) (d : Ghosts D S) where
+module _ {A B C D : Type 0} (a : Ghosts A) (b : Ghosts B) (c : Ghosts C) (d : Ghosts D) where
   -- the machine that the code holds, with the core that is lent to it
-  abbrev pub view : Engine A B C D P Q R S → List ℕ → Machine
+  abbrev pub view : Engine A B C D → List ℕ → Machine
   view x u = record { processor = x.processor; core = u; first = dev a x.first; second = dev b x.second; third = dev c x.third; fourth = dev d x.fourth }
 
   abbrev pub makes : Makes
   makes = record { first = a.means; second = b.means; third = c.means; fourth = d.means }
 
   -- something done takes x with core u to y with core v
-  abbrev pub Does : (Makes → Machine → Did) → Engine A B C D P Q R S → List ℕ → Engine A B C D P Q R S → List ℕ → Type 0
+  abbrev pub Does : (Makes → Machine → Did) → Engine A B C D → List ℕ → Engine A B C D → List ℕ → Type 0
   Does f x u y v = view y v ≡ (f makes (view x u)).machine
 
   -- the plan p comes from x to the same as what is left of it, q, from y
-  abbrev pub Goes : Plan → Engine A B C D P Q R S → List ℕ → Plan → Engine A B C D P Q R S → List ℕ → Type 0
+  abbrev pub Goes : Plan → Engine A B C D → List ℕ → Plan → Engine A B C D → List ℕ → Type 0
   Goes p x u q y v = (perform makes p (view x u)).machine ≡ (perform makes q (view y v)).machine
+
+  -- the operation o, with these fields and the first word w, takes x with core u to y with core v
+  abbrev pub Operates : Operation → Fields → ℕ → Engine A B C D → List ℕ → Engine A B C D → List ℕ → Type 0
+  Operates o f w x u y v = Goes (operation makes (length u) o f w x.processor.works.registers) x u done y v
+
+  -- a step, asked of x with core u, answers r and leaves y with core v
+  pub record Steps (x : Engine A B C D) (u : List ℕ) (r : Result Report Refusal) (y : Engine A B C D) (v : List ℕ) : Type 0 where
+    pub answer : r ≡ step_answer (lent_right (view x u)) (below_limit (view x u)) makes (view x u)
+    pub after : view y v ≡ step_machine (lent_right (view x u)) (below_limit (view x u)) makes (view x u)

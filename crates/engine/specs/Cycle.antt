@@ -78,7 +78,7 @@ tell m f s = calling_all m passed (counted f s)
 -- At a head it reads scan control and count: bit 0 go on, bit 1 tell, bits 4 to 15 the count.
 -- In data it moves one word, as the device asks. At the word that names the next head it reads that address.
 abbrev pub at_head : ℕ → ℕ → ℕ → Channel
-at_head n a w = Data ((a + 1) % n) (bits w 4 15) (bit w 0) (bit w 1)
+at_head n a w = Data ((a + 1) % n) (bits w 4 15) (record { go_on = bit w 0; tell = bit w 1 })
 
 abbrev pub set_channel : ChannelNumber → Channel → Machine → Did
 set_channel l c s = quiet (work (with_channel l c) s)
@@ -96,8 +96,8 @@ abbrev pub transfer : Channel → Asking → Makes → ChannelNumber → Machine
 transfer Idle asking m l s = quiet s
 transfer (Head a) asking m l s =
     refer (device m (position_of l)) (reading a) s then set_channel l (at_head (length s.core) a (data_in a s))
-transfer (Data a n go_on tells) asking m l s =
-    moves asking m l a s then set_channel l (Data ((a + 1) % length s.core) (n - 1) go_on tells)
+transfer (Data a n end) asking m l s =
+    moves asking m l a s then set_channel l (Data ((a + 1) % length s.core) (n - 1) end)
 transfer (NextHead a) asking m l s =
     refer (device m (position_of l)) (reading a) s then set_channel l (Head (data_in a s % length s.core))
 
@@ -109,8 +109,8 @@ after_table false a = Idle
 abbrev pub ending : Channel → Makes → ChannelNumber → Machine → Did
 ending Idle m l s = quiet s
 ending (Head a) m l s = quiet s
-ending (Data a zero go_on tells) m l s = calling m (position_of l) (finish go_on tells) s then set_channel l (after_table go_on a)
-ending (Data a (suc n) go_on tells) m l s = quiet s
+ending (Data a zero end) m l s = calling m (position_of l) (finish end.go_on end.tell) s then set_channel l (after_table end.go_on a)
+ending (Data a (suc n) end) m l s = quiet s
 ending (NextHead a) m l s = quiet s
 
 abbrev pub channel_of : ChannelNumber → Machine → Channel

@@ -1,10 +1,13 @@
 -- Checks and other faults: the flag that a check raises, and what a step's tally keeps.
-use Rattle.std.specs.Prelude.{ℕ, ◌+◌, Bool, true, false, ◌||◌, Some, None, Option}
+use Rattle.std.specs.Prelude.{ℕ, ◌+◌, true, ◌||◌, Some, None, Option, is_some}
+use Rattle.std.specs.Option.{option_or}
 use Rattle.levels.specs.declared.state.Flags.{Flags}
 use Rattle.works.specs.declared.fault.Cause.{Cause}
 use Rattle.works.specs.declared.fault.Cause.TheVariants.{Channel, Parity, Protect, Operation, NoDevice}
 use Rattle.works.specs.declared.fault.ChannelFault.TheVariants.{Refused, Parity as ChannelParity, Protect as ChannelProtect}
 use Rattle.works.specs.declared.fault.Fault.{Fault}
+use Rattle.engine.specs.declared.checks.Check.{Check}
+use Rattle.engine.specs.declared.checks.Check.TheVariants.{Parity as ParityCheck, Operation as OperationCheck, Protect as ProtectCheck}
 use Rattle.engine.specs.declared.place.By.{By}
 use Rattle.engine.specs.declared.place.By.TheVariants.{Program, Device}
 use Rattle.engine.specs.declared.place.Position.{Position}
@@ -32,37 +35,24 @@ protect_cause Program = Protect
 protect_cause (Device p kind) = Channel ChannelProtect
 
 -- Parity, protect and operation are checks, whoever met them; a check raises its flag. What XIO alone meets is no check and raises none.
-pub data Check : Type 0 where
-  no_check parity_check operation_check protect_check : Check
+abbrev pub check_of : Cause → Option Check
+check_of Parity = Some ParityCheck
+check_of Protect = Some ProtectCheck
+check_of Operation = Some OperationCheck
+check_of NoDevice = None
+check_of (Channel ChannelParity) = Some ParityCheck
+check_of (Channel ChannelProtect) = Some ProtectCheck
+check_of (Channel (Refused e)) = None
 
-abbrev pub check_of : Cause → Check
-check_of Parity = parity_check
-check_of Protect = protect_check
-check_of Operation = operation_check
-check_of NoDevice = no_check
-check_of (Channel ChannelParity) = parity_check
-check_of (Channel ChannelProtect) = protect_check
-check_of (Channel (Refused e)) = no_check
-
-abbrev pub flagged : Check → Flags → Flags
-flagged no_check f = f
-flagged parity_check f = record { parity = true; operation = f.operation; protect = f.protect }
-flagged operation_check f = record { parity = f.parity; operation = true; protect = f.protect }
-flagged protect_check f = record { parity = f.parity; operation = f.operation; protect = true }
-
-abbrev pub is_check : Check → Bool
-is_check no_check = false
-is_check parity_check = true
-is_check operation_check = true
-is_check protect_check = true
+abbrev pub flagged : Option Check → Flags → Flags
+flagged None f = f
+flagged (Some ParityCheck) f = record { parity = true; operation = f.operation; protect = f.protect }
+flagged (Some OperationCheck) f = record { parity = f.parity; operation = true; protect = f.protect }
+flagged (Some ProtectCheck) f = record { parity = f.parity; operation = f.operation; protect = true }
 
 -- the first fault of a step is kept whole, all are counted
-abbrev pub kept_first : Option Fault → Fault → Option Fault
-kept_first None f = Some f
-kept_first (Some g) f = Some g
-
 abbrev pub noted : Fault → Tally → Tally
-noted f t = record { counts = t.counts; faults = t.faults + 1; first = kept_first t.first f; checked = t.checked || is_check (check_of f.cause) }
+noted f t = record { counts = t.counts; faults = t.faults + 1; first = option_or t.first (Some f); checked = t.checked || is_some (check_of f.cause) }
 
 abbrev pub faulted : Fault → Processor → Processor
 faulted f p = with_tally (noted f p.tally) (with_works (with_flags (flagged (check_of f.cause) p.works.flags) p.works) p)

@@ -7,8 +7,8 @@ use Rattle.instruction.specs.declared.words.Index.{Index}
 use Rattle.instruction.specs.declared.words.Fields.{Fields}
 use Rattle.instruction.specs.Decoding.{bit, decoded, fields_of}
 use Rattle.registers.specs.declared.state.Registers.{Registers}
-use Rattle.registers.specs.declared.state.Comparison.{Comparison}
-use Rattle.registers.specs.declared.state.Comparison.TheVariants.{Greater, Less, Same}
+use Rattle.std.specs.declared.cmp.Ordering.{Ordering}
+use Rattle.std.specs.declared.cmp.Ordering.TheVariants.{Less, Equal, Greater}
 use Rattle.registers.specs.Parts.{with_i, with_a, both, with_both, index, with_index}
 use Rattle.registers.specs.Arithmetic.{signed, signed_both, added, subtracted, added_both, subtracted_both, comparison, compared, compared_both, multiplied, divided, anded, ored, xored}
 use Rattle.registers.specs.Shifts.{shifted_left, shifted_right}
@@ -68,10 +68,10 @@ abbrev pub double : ℕ → Fields → Registers → (ℕ → Plan) → Plan
 double n f r k = formed n f r (λ ea r. read ea (λ high. read (odd ea) (λ low. k (high * 65536 + low))))
 
 -- A comparison goes on if greater, skips a word if less, two if the same.
-abbrev pub by_comparison : ℕ → Comparison → Plan
+abbrev pub by_comparison : ℕ → Ordering → Plan
 by_comparison n Greater = done
 by_comparison n Less = skip n 1 done
-by_comparison n Same = skip n 2 done
+by_comparison n Equal = skip n 2 done
 
 -- With bit 9 on, a BSC that skips or branches ends the highest level in service.
 abbrev pub leave : Fields → Plan → Plan

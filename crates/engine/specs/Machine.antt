@@ -1,5 +1,6 @@
 -- The machine: the controller's own state, the core that is lent to it, and its four devices.
 use Rattle.std.specs.Prelude.{ℕ, ◌%◌, List, length, slice_index}
+pub use Rattle.storage.specs.Memory.{words_of_size}
 use Rattle.levels.specs.declared.state.Flags.{Flags}
 use Rattle.levels.specs.declared.state.Masks.{Masks}
 use Rattle.levels.specs.declared.state.Points.{Points}
@@ -11,8 +12,6 @@ use Rattle.engine.specs.declared.place.Position.{Position}
 use Rattle.engine.specs.declared.place.Position.TheVariants.{First, Second, Third, Fourth}
 use Rattle.engine.specs.declared.place.ChannelNumber.{ChannelNumber}
 use Rattle.engine.specs.declared.place.ChannelNumber.TheVariants.{Channel1, Channel2, Channel3}
-use Rattle.engine.specs.declared.state.CoreSize.{CoreSize}
-use Rattle.engine.specs.declared.state.CoreSize.TheVariants.{Words4096, Words8192, Words16384, Words32768}
 use Rattle.engine.specs.declared.state.Works.{Works}
 use Rattle.engine.specs.declared.state.Tally.{Tally}
 use Rattle.engine.specs.declared.state.Books.{Books}
@@ -30,13 +29,6 @@ pub record Machine : Type 0 where
   pub second : Dev
   pub third : Dev
   pub fourth : Dev
-
--- the four sizes
-abbrev pub words_of_size : CoreSize → ℕ
-words_of_size Words4096 = 4096
-words_of_size Words8192 = 8192
-words_of_size Words16384 = 16384
-words_of_size Words32768 = 32768
 
 -- an address is taken modulo the core's size, at the reference
 abbrev pub place : ℕ → Machine → ℕ

@@ -2,13 +2,13 @@
 use Rattle.std.specs.Prelude.{ℕ, ◌*◌, ◌%◌, Bool, true, false, cond, ◌&&◌, ◌||◌, List, Some, None, Ok, Err, Option, Result, ◌==◌, nat_lt}
 use Rattle.device.specs.declared.answer.DeviceFault.{DeviceFault}
 use Rattle.device.specs.declared.answer.DeviceFault.TheVariants.{NotTaken}
-use Rattle.instruction.specs.Decoding.{bits}
+use Rattle.device.specs.declared.control.ControlWord.{ControlWord}
+pub use Rattle.device.specs.Orders.{control_of}
 use Rattle.registers.specs.Parts.{with_a}
 use Rattle.levels.specs.Interrupts.{highest, masked_low, masked_high}
 use Rattle.works.specs.declared.channel.Channel.TheVariants.{Idle, Head}
 use Rattle.works.specs.declared.fault.Cause.TheVariants.{Channel, NoDevice}
 use Rattle.works.specs.declared.fault.ChannelFault.TheVariants.{Refused}
-use Rattle.engine.specs.declared.control.ControlWord.{ControlWord}
 use Rattle.engine.specs.declared.place.By.TheVariants.{Program}
 use Rattle.engine.specs.declared.place.Position.{Position}
 use Rattle.engine.specs.declared.place.Position.TheVariants.{First, Second, Third, Fourth}
@@ -20,10 +20,6 @@ use Rattle.engine.specs.Makes.{Makes, make_at}
 use Rattle.engine.specs.Faults.{device, fault_of}
 use Rattle.engine.specs.Levels.{cleared_by}
 use Rattle.engine.specs.Plan.{Plan, done, act, look, read, store, fetch, give, order, inquire, fault, interrupts, drop}
-
--- the control word: area in bits 0 to 4, function in 5 to 7, modifier in 8 to 15
-abbrev pub control_of : ℕ → ControlWord
-control_of w = record { area = bits w 0 4; function = bits w 5 7; modifier = bits w 8 15 }
 
 -- what stands in A
 abbrev pub to_a : ℕ → Works → Works

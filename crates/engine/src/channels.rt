@@ -1,22 +1,24 @@
 // A channel's part of a stolen cycle: its reference to core, its device's bring or take, and where it then stands.
-ghost use Rattle.std.specs.Prelude.{◌≡◌, ℕ, ◌+◌, ◌%◌, ◌^◌, ◌<◌, List, length};
+ghost use Rattle.std.specs.Prelude.{◌≡◌, ℕ, ◌+◌, ◌%◌, ◌^◌, List};
 ghost use Rattle.engine.specs.Machine.{words_of_size, position_of, channel_at, with_channel};
 ghost use Rattle.engine.specs.Cycle.{at_head as the_head, after_table as behind_table, asking_of, moves, transferring, finished};
-ghost use Rattle.engine.specs.Code.{Fits, spent, Keeps, Serves, dev};
+ghost use Rattle.engine.specs.Code.{Room, Keeps, Serves, dev};
 
 use crate::place::{By, ChannelNumber, Position};
 use crate::references::place;
-use crate::state::{CoreSize, Processor, Works};
+use crate::state::{Processor, Works};
 use device::answer::Asking;
 use device::interface::ChannelDevice;
+use device::table::TableEnd;
+use storage::memory::CoreSize;
 use works::channel::Channel;
 
-impl ChannelNumber {
-    // Whose channel it is.
-    pub(crate) fn position(self) -> Position
-        ensures { result ≡ position_of self }
-    {
-        match self {
+// Whose channel it is.
+impl From<ChannelNumber> for Position {
+    ghost from_gives = { λ n r. r ≡ position_of n };
+
+    fn from(number: ChannelNumber) -> Position {
+        match number {
             ChannelNumber::Channel1 => Position::First,
             ChannelNumber::Channel2 => Position::Second,
             ChannelNumber::Channel3 => Position::Third,
@@ -24,6 +26,7 @@ impl ChannelNumber {
     }
 }
 
+// Three fields and no array: the definition names each channel, and no index has to stay below three.
 impl Works {
     pub(crate) fn channel(&self, number: ChannelNumber) -> Channel
         ensures { result ≡ channel_at number self.now }
@@ -46,17 +49,11 @@ impl Works {
     }
 }
 
-// So many words on from an address, modulo the core's size.
+// So many words on from an address, modulo the core's size. Each size divides what a sum of addresses wraps at.
 pub(crate) fn onward(size: CoreSize, address: u16, words: u16) -> u16
     ensures { result ≡ (address + words) % words_of_size size }
 {
-    let sum = u32::from(address) + u32::from(words);
-    match size {
-        CoreSize::Words4096 => (sum % 4096) as u16,
-        CoreSize::Words8192 => (sum % 8192) as u16,
-        CoreSize::Words16384 => (sum % 16384) as u16,
-        CoreSize::Words32768 => (sum % 32768) as u16,
-    }
+    place(size, address.wrapping_add(words))
 }
 
 // Where a channel stands once it has read this head.
@@ -66,8 +63,10 @@ fn at_head(size: CoreSize, address: u16, word: u16) -> Channel
     Channel::Data {
         address: onward(size, address, 1),
         count: word % 4096,
-        go_on: word / 32768 % 2 == 1,
-        tell: word / 16384 % 2 == 1,
+        end: TableEnd {
+            go_on: word / 32768 % 2 == 1,
+            tell: word / 16384 % 2 == 1,
+        },
     }
 }
 
@@ -91,14 +90,12 @@ impl Processor {
         core: &mut [u32],
         address: u16,
     )
-        requires fits { Fits self.old core.old }
-        requires small { spent self.old < 2 ^ 31 }
+        requires room { Room (2 ^ 31) self.old core.old }
         ensures after { Serves number D.Device.means (λ m s. moves (asking_of m number s) m number address s) self.old core.old (dev D.Device device.old) self.new core.new (dev D.Device device.new) }
-        ensures long { length core.new ≡ length core.old }
         ensures keeps { Keeps 1 self.old self.new }
     {
         let by = By::Device {
-            position: number.position(),
+            position: Position::from(number),
             kind: device.kind(),
         };
         match device.asks() {
@@ -121,14 +118,12 @@ impl Processor {
         device: &mut D,
         core: &mut [u32],
     )
-        requires fits { Fits self.old core.old }
-        requires small { spent self.old < 2 ^ 31 }
+        requires room { Room (2 ^ 31) self.old core.old }
         ensures after { Serves number D.Device.means (λ m. transferring m number) self.old core.old (dev D.Device device.old) self.new core.new (dev D.Device device.new) }
-        ensures long { length core.new ≡ length core.old }
         ensures keeps { Keeps 1 self.old self.new }
     {
         let by = By::Device {
-            position: number.position(),
+            position: Position::from(number),
             kind: device.kind(),
         };
         match self.works.channel(number) {
@@ -141,15 +136,13 @@ impl Processor {
             Channel::Data {
                 address,
                 count,
-                go_on,
-                tell,
+                end,
             } => {
                 self.move_word(number, device, core, address);
                 let next = Channel::Data {
                     address: onward(self.books.size, address, 1),
                     count: count.saturating_sub(1),
-                    go_on,
-                    tell,
+                    end,
                 };
                 self.works.set_channel(number, next);
             }
@@ -168,19 +161,15 @@ impl Processor {
         ensures after { (u : List ℕ) → Serves number D.Device.means (λ m. finished m number) self.old u (dev D.Device device.old) self.new u (dev D.Device device.new) }
         ensures keeps { Keeps 0 self.old self.new }
     {
-        match self.works.channel(number) {
-            Channel::Idle | Channel::Head { address: _ } | Channel::NextHead { address: _ } => {}
-            Channel::Data {
-                address,
-                count,
-                go_on,
-                tell,
-            } => {
-                if count == 0 {
-                    device.finish(go_on, tell);
-                    self.works.set_channel(number, after_table(go_on, address));
-                }
-            }
+        if let Channel::Data {
+            address,
+            count: 0,
+            end,
+        } = self.works.channel(number)
+        {
+            device.finish(end);
+            self.works
+                .set_channel(number, after_table(end.go_on, address));
         }
     }
 }

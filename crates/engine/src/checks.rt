@@ -1,21 +1,26 @@
 // Faults as the processor keeps them: the flag that a check raises, and the step's tally.
-ghost use Rattle.std.specs.Prelude.{◌≡◌, ◌+◌, ◌^◌, ◌<◌};
-ghost use Rattle.engine.specs.Machine.{position_number};
-ghost use Rattle.engine.specs.Faults.{fault_of, parity_cause as the_parity_cause, protect_cause as the_protect_cause, check_of, flagged, is_check, kept_first, faulted};
+ghost use Rattle.std.specs.Prelude.{◌≡◌, ◌<◌};
+ghost use Rattle.engine.specs.Machine.{position_number, with_flags};
+ghost use Rattle.engine.specs.Faults.{fault_of, parity_cause as the_parity_cause, protect_cause as the_protect_cause, check_of as the_check, flagged, faulted};
 
 use crate::place::{By, Position};
-use crate::state::Processor;
-use levels::state::Flags;
+use crate::state::{Processor, Works};
 use works::fault::{Cause, ChannelFault, Fault};
 
-fn number(position: Position) -> u32
-    ensures { result ≡ position_number position }
-{
-    match position {
-        Position::First => 1,
-        Position::Second => 2,
-        Position::Third => 3,
-        Position::Fourth => 4,
+// Parity, protect and operation are checks, whoever met them. Each has its flag.
+#[derive(Clone, Copy, PartialEq, Eq, Debug)]
+pub(crate) enum Check {
+    Parity,
+    Operation,
+    Protect,
+}
+
+impl Position {
+    // As fault records number it.
+    pub(crate) fn number(self) -> u32
+        ensures { result ≡ position_number self }
+    {
+        self as u32
     }
 }
 
@@ -34,21 +39,19 @@ impl By {
             By::Device { position, kind } => Fault {
                 cause,
                 address,
-                by: number(position),
+                by: position.number(),
                 kind,
             },
         }
     }
 
+    // The cause of a check: two functions of one match, since one that was given both causes would say at its calls what is said here.
     pub(crate) fn parity_cause(self) -> Cause
         ensures { result ≡ the_parity_cause self }
     {
         match self {
             By::Program => Cause::Parity,
-            By::Device {
-                position: _,
-                kind: _,
-            } => Cause::Channel(ChannelFault::Parity),
+            By::Device { .. } => Cause::Channel(ChannelFault::Parity),
         }
     }
 
@@ -57,44 +60,34 @@ impl By {
     {
         match self {
             By::Program => Cause::Protect,
-            By::Device {
-                position: _,
-                kind: _,
-            } => Cause::Channel(ChannelFault::Protect),
+            By::Device { .. } => Cause::Channel(ChannelFault::Protect),
         }
     }
 }
 
-// The flags after a fault of this cause.
-fn raised(cause: Cause, flags: Flags) -> Flags
-    ensures { result ≡ flagged (check_of cause) flags }
-{
-    let mut flags = flags;
-    match cause {
-        Cause::Parity | Cause::Channel(ChannelFault::Parity) => flags.parity = true,
-        Cause::Protect | Cause::Channel(ChannelFault::Protect) => flags.protect = true,
-        Cause::Operation => flags.operation = true,
-        Cause::NoDevice | Cause::Channel(ChannelFault::Refused(_)) => {}
-    }
-    flags
-}
-
-fn is_a_check(cause: Cause) -> bool
-    ensures { result ≡ is_check (check_of cause) }
+// Which check a fault of this cause is, if it is one.
+fn check_of(cause: Cause) -> Option<Check>
+    ensures { result ≡ the_check cause }
 {
     match cause {
-        Cause::Parity | Cause::Protect | Cause::Operation => true,
-        Cause::Channel(ChannelFault::Parity) | Cause::Channel(ChannelFault::Protect) => true,
-        Cause::NoDevice | Cause::Channel(ChannelFault::Refused(_)) => false,
+        Cause::Parity | Cause::Channel(ChannelFault::Parity) => Some(Check::Parity),
+        Cause::Protect | Cause::Channel(ChannelFault::Protect) => Some(Check::Protect),
+        Cause::Operation => Some(Check::Operation),
+        Cause::NoDevice | Cause::Channel(ChannelFault::Refused(_)) => None,
     }
 }
 
-fn first_of(kept: Option<Fault>, fault: Fault) -> Option<Fault>
-    ensures { result ≡ kept_first kept fault }
-{
-    match kept {
-        Some(first) => Some(first),
-        None => Some(fault),
+impl Works {
+    // Raises the flag of a check.
+    fn flag(&mut self, check: Option<Check>)
+        ensures { self.new ≡ with_flags (flagged check self.old.flags) self.old }
+    {
+        match check {
+            None => {}
+            Some(Check::Parity) => self.flags.parity = true,
+            Some(Check::Operation) => self.flags.operation = true,
+            Some(Check::Protect) => self.flags.protect = true,
+        }
     }
 }
 
@@ -104,9 +97,10 @@ impl Processor {
         requires { self.old.tally.faults < 4294967295 }
         ensures { self.new ≡ faulted fault self.old }
     {
-        self.works.flags = raised(fault.cause, self.works.flags);
+        let check = check_of(fault.cause);
+        self.works.flag(check);
         self.tally.faults += 1;
-        self.tally.first = first_of(self.tally.first, fault);
-        self.tally.checked = self.tally.checked || is_a_check(fault.cause);
+        self.tally.first = self.tally.first.or(Some(fault));
+        self.tally.checked |= check.is_some();
     }
 }

@@ -1,4 +1,5 @@
-// The processor with its four devices.
+// The processor with its four devices. The core is lent beside it, call by call: a struct of both leaves as many clauses, each longer
+// by `self.old.engine.now` for `self.old`.
 use crate::state::Processor;
 use device::interface::{ChannelDevice, Device};
 

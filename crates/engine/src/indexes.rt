@@ -1,18 +1,18 @@
 // LDX, STX and MDX. The tag names the register that they work on, and none names I.
-ghost use Rattle.std.specs.Prelude.{◌≡◌, ℕ, ◌+◌, ◌^◌, ◌<◌, ◌≤◌, length, if◌then◌else◌, Some, None};
+ghost use Rattle.std.specs.Prelude.{◌≡◌, ℕ, ◌^◌, length, if◌then◌else◌, Some};
 ghost use Rattle.instruction.specs.declared.words.Operation.TheVariants.{LoadIndex, StoreIndex, ModifyIndex};
 ghost use Rattle.engine.specs.Machine.{words_of_size};
 ghost use Rattle.engine.specs.Plan.{done};
-ghost use Rattle.engine.specs.Instructions.{advanced, loaded, named as the_named, modify as the_modify, second as the_second, modify_memory, operation};
-ghost use Rattle.engine.specs.Code.{Fits, spent, Goes, makes};
+ghost use Rattle.engine.specs.Instructions.{advanced, loaded, named as the_named, modify as the_modify, second as the_second, modify_memory};
+ghost use Rattle.engine.specs.Code.{Room, Within, Goes, Operates};
 
 use crate::engine::Engine;
 use crate::operands::{advance, jump};
-use crate::state::CoreSize;
 use device::interface::{ChannelDevice, Device};
 use instruction::words::{Fields, Index};
 use registers::branches::modify;
 use registers::state::Registers;
+use storage::memory::CoreSize;
 
 fn named(registers: &Registers, tag: Option<Index>) -> u16
     ensures { result ≡ the_named tag registers.now }
@@ -43,12 +43,9 @@ fn skip_if(registers: &mut Registers, size: CoreSize, on: bool)
 impl<A: ChannelDevice, B: ChannelDevice, C: ChannelDevice, D: Device> Engine<A, B, C, D> {
     // LDX
     pub(crate) fn load_index(&mut self, core: &mut [u32], fields: &Fields)
-        requires fits { Fits self.old.processor core.old }
-        requires small { spent self.old.processor < 2 ^ 29 }
-        ensures goes { (w : ℕ) → Goes A.Device B.Device C.Device D.Device (operation (makes A.Device B.Device C.Device D.Device) (length core.old) LoadIndex fields.now w self.old.processor.works.registers) self.old core.old done self.new core.new }
-        ensures long { length core.new ≡ length core.old }
-        ensures books { self.new.processor.books ≡ self.old.processor.books }
-        ensures grows { spent self.new.processor ≤ spent self.old.processor + 64 }
+        requires room { Room (2 ^ 29) self.old.processor core.old }
+        ensures goes { (w : ℕ) → Operates A.Device B.Device C.Device D.Device LoadIndex fields.now w self.old core.old self.new core.new }
+        ensures within { Within 64 self.old.processor self.new.processor }
     {
         let value = self.value(core, fields);
         let size = self.processor.books.size;
@@ -57,12 +54,9 @@ impl<A: ChannelDevice, B: ChannelDevice, C: ChannelDevice, D: Device> Engine<A, 
 
     // STX
     pub(crate) fn store_index(&mut self, core: &mut [u32], fields: &Fields)
-        requires fits { Fits self.old.processor core.old }
-        requires small { spent self.old.processor < 2 ^ 29 }
-        ensures goes { (w : ℕ) → Goes A.Device B.Device C.Device D.Device (operation (makes A.Device B.Device C.Device D.Device) (length core.old) StoreIndex fields.now w self.old.processor.works.registers) self.old core.old done self.new core.new }
-        ensures long { length core.new ≡ length core.old }
-        ensures books { self.new.processor.books ≡ self.old.processor.books }
-        ensures grows { spent self.new.processor ≤ spent self.old.processor + 64 }
+        requires room { Room (2 ^ 29) self.old.processor core.old }
+        ensures goes { (w : ℕ) → Operates A.Device B.Device C.Device D.Device StoreIndex fields.now w self.old core.old self.new core.new }
+        ensures within { Within 64 self.old.processor self.new.processor }
     {
         let address = self.effective(core, None, fields);
         let value = named(&self.processor.works.registers, fields.tag);
@@ -71,12 +65,9 @@ impl<A: ChannelDevice, B: ChannelDevice, C: ChannelDevice, D: Device> Engine<A, 
 
     // MDX, of an index register.
     fn modify_register(&mut self, core: &mut [u32], x: Index, fields: &Fields)
-        requires fits { Fits self.old.processor core.old }
-        requires small { spent self.old.processor < 2 ^ 29 }
+        requires room { Room (2 ^ 29) self.old.processor core.old }
         ensures goes { Goes A.Device B.Device C.Device D.Device (the_modify (length core.old) (Some x) fields.now self.old.processor.works.registers) self.old core.old done self.new core.new }
-        ensures long { length core.new ≡ length core.old }
-        ensures books { self.new.processor.books ≡ self.old.processor.books }
-        ensures grows { spent self.new.processor ≤ spent self.old.processor + 16 }
+        ensures within { Within 16 self.old.processor self.new.processor }
     {
         let by = self.value(core, fields);
         let skip = self.processor.works.registers.modify_index(x, by);
@@ -86,12 +77,9 @@ impl<A: ChannelDevice, B: ChannelDevice, C: ChannelDevice, D: Device> Engine<A, 
 
     // MDX, of a word of core.
     fn modify_word(&mut self, core: &mut [u32], fields: &Fields)
-        requires fits { Fits self.old.processor core.old }
-        requires small { spent self.old.processor < 2 ^ 29 }
+        requires room { Room (2 ^ 29) self.old.processor core.old }
         ensures goes { Goes A.Device B.Device C.Device D.Device (the_second (length core.old) self.old.processor.works.registers (λ address r. modify_memory (length core.old) fields.now address)) self.old core.old done self.new core.new }
-        ensures long { length core.new ≡ length core.old }
-        ensures books { self.new.processor.books ≡ self.old.processor.books }
-        ensures grows { spent self.new.processor ≤ spent self.old.processor + 24 }
+        ensures within { Within 24 self.old.processor self.new.processor }
     {
         let address = self.second(core);
         let old = self.read(core, address);
@@ -103,12 +91,9 @@ impl<A: ChannelDevice, B: ChannelDevice, C: ChannelDevice, D: Device> Engine<A, 
 
     // MDX. Of I, in the short form with no tag, it never skips.
     pub(crate) fn modify_index(&mut self, core: &mut [u32], fields: &Fields)
-        requires fits { Fits self.old.processor core.old }
-        requires small { spent self.old.processor < 2 ^ 29 }
-        ensures goes { (w : ℕ) → Goes A.Device B.Device C.Device D.Device (operation (makes A.Device B.Device C.Device D.Device) (length core.old) ModifyIndex fields.now w self.old.processor.works.registers) self.old core.old done self.new core.new }
-        ensures long { length core.new ≡ length core.old }
-        ensures books { self.new.processor.books ≡ self.old.processor.books }
-        ensures grows { spent self.new.processor ≤ spent self.old.processor + 64 }
+        requires room { Room (2 ^ 29) self.old.processor core.old }
+        ensures goes { (w : ℕ) → Operates A.Device B.Device C.Device D.Device ModifyIndex fields.now w self.old core.old self.new core.new }
+        ensures within { Within 64 self.old.processor self.new.processor }
     {
         match fields.tag {
             Some(x) => self.modify_register(core, x, fields),

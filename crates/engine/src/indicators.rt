@@ -1,9 +1,9 @@
 // STS, in both its forms.
-ghost use Rattle.std.specs.Prelude.{◌≡◌, ◌+◌, ◌^◌, ◌<◌, ◌≤◌, length};
+ghost use Rattle.std.specs.Prelude.{◌^◌, length};
 ghost use Rattle.instruction.specs.declared.words.Operation.TheVariants.{StoreStatus};
 ghost use Rattle.engine.specs.Plan.{done};
-ghost use Rattle.engine.specs.Instructions.{store_status, protect as the_protect, operation};
-ghost use Rattle.engine.specs.Code.{Fits, spent, Goes, makes};
+ghost use Rattle.engine.specs.Instructions.{store_status, protect as the_protect};
+ghost use Rattle.engine.specs.Code.{Room, Within, Goes, Operates};
 
 use crate::engine::Engine;
 use device::interface::{ChannelDevice, Device};
@@ -12,12 +12,9 @@ use instruction::words::Fields;
 impl<A: ChannelDevice, B: ChannelDevice, C: ChannelDevice, D: Device> Engine<A, B, C, D> {
     // Stores Carry and Overflow, and turns them off. The cycle that stores comes before they go off.
     fn keep_status(&mut self, core: &mut [u32], fields: &Fields)
-        requires fits { Fits self.old.processor core.old }
-        requires small { spent self.old.processor < 2 ^ 29 }
+        requires room { Room (2 ^ 29) self.old.processor core.old }
         ensures goes { Goes A.Device B.Device C.Device D.Device (store_status (length core.old) fields.now self.old.processor.works.registers) self.old core.old done self.new core.new }
-        ensures long { length core.new ≡ length core.old }
-        ensures books { self.new.processor.books ≡ self.old.processor.books }
-        ensures grows { spent self.new.processor ≤ spent self.old.processor + 32 }
+        ensures within { Within 32 self.old.processor self.new.processor }
     {
         let address = self.effective(core, fields.tag, fields);
         let old = self.read(core, address);
@@ -29,12 +26,9 @@ impl<A: ChannelDevice, B: ChannelDevice, C: ChannelDevice, D: Device> Engine<A, 
 
     // Sets a word's protect bit, where the write-protect switch lets it.
     fn protect(&mut self, core: &mut [u32], on: bool, fields: &Fields)
-        requires fits { Fits self.old.processor core.old }
-        requires small { spent self.old.processor < 2 ^ 29 }
+        requires room { Room (2 ^ 29) self.old.processor core.old }
         ensures goes { Goes A.Device B.Device C.Device D.Device (the_protect (length core.old) on fields.now self.old.processor.works.registers) self.old core.old done self.new core.new }
-        ensures long { length core.new ≡ length core.old }
-        ensures books { self.new.processor.books ≡ self.old.processor.books }
-        ensures grows { spent self.new.processor ≤ spent self.old.processor + 32 }
+        ensures within { Within 32 self.old.processor self.new.processor }
     {
         let address = self.effective(core, fields.tag, fields);
         if self.processor.books.switches.write_protect {
@@ -45,12 +39,9 @@ impl<A: ChannelDevice, B: ChannelDevice, C: ChannelDevice, D: Device> Engine<A, 
 
     // STS
     pub(crate) fn store_status(&mut self, core: &mut [u32], fields: &Fields, word: u16)
-        requires fits { Fits self.old.processor core.old }
-        requires small { spent self.old.processor < 2 ^ 29 }
-        ensures goes { Goes A.Device B.Device C.Device D.Device (operation (makes A.Device B.Device C.Device D.Device) (length core.old) StoreStatus fields.now word self.old.processor.works.registers) self.old core.old done self.new core.new }
-        ensures long { length core.new ≡ length core.old }
-        ensures books { self.new.processor.books ≡ self.old.processor.books }
-        ensures grows { spent self.new.processor ≤ spent self.old.processor + 64 }
+        requires room { Room (2 ^ 29) self.old.processor core.old }
+        ensures goes { Operates A.Device B.Device C.Device D.Device StoreStatus fields.now word self.old core.old self.new core.new }
+        ensures within { Within 64 self.old.processor self.new.processor }
     {
         if fields.long && fields.branch_out {
             self.protect(core, word % 2 == 1, fields);

@@ -6,7 +6,6 @@ mod arithmetic;
 mod branches;
 mod channels;
 mod checks;
-pub mod control;
 mod cycles;
 pub mod engine;
 mod indexes;

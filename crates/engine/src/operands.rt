@@ -1,21 +1,23 @@
 // Effective addresses and operands: what an instruction reads before it does anything.
-ghost use Rattle.std.specs.Prelude.{◌≡◌, ℕ, ◌+◌, ◌*◌, ◌/◌, ◌^◌, ◌<◌, ◌≤◌, length};
+ghost use Rattle.std.specs.Prelude.{◌<◌, ◌≡◌, ℕ, ◌^◌, length};
+ghost use Rattle.instruction.specs.declared.words.Fields.{Fields};
 ghost use Rattle.registers.specs.declared.state.Registers.{Registers};
 ghost use Rattle.registers.specs.Parts.{with_i};
 ghost use Rattle.engine.specs.Machine.{words_of_size};
 ghost use Rattle.engine.specs.Plan.{Plan};
 ghost use Rattle.engine.specs.Instructions.{advanced, i_set, second as the_second, indirectly, indexed as the_indexed, formed_of, value_of, odd as the_odd, single, double};
-ghost use Rattle.engine.specs.Code.{Fits, spent, Goes};
+ghost use Rattle.engine.specs.Code.{Room, Within, Goes};
 
 use crate::channels::onward;
 use crate::engine::Engine;
 use crate::references::place;
-use crate::state::CoreSize;
 use device::interface::{ChannelDevice, Device};
 use instruction::words::{Fields, Index};
 use registers::state::Registers;
+use storage::memory::CoreSize;
 
-// Moves I on by so many words.
+// Moves I on by so many words. What works on registers and a size is given those two: as a method of the processor it would have to tell its
+// callers that all else stayed.
 pub(crate) fn advance(registers: &mut Registers, size: CoreSize, words: u16)
     ensures { registers.new ≡ advanced (words_of_size size) words registers.old }
 {
@@ -49,13 +51,10 @@ pub(crate) fn odd(address: u16) -> u16
 impl<A: ChannelDevice, B: ChannelDevice, C: ChannelDevice, D: Device> Engine<A, B, C, D> {
     // The second word of a long form.
     pub(crate) fn second(&mut self, core: &mut [u32]) -> u16
-        requires fits { Fits self.old.processor core.old }
-        requires small { spent self.old.processor < 2 ^ 30 }
+        requires room { Room (2 ^ 30) self.old.processor core.old }
         ensures goes { (k : ℕ → Registers → Plan) → Goes A.Device B.Device C.Device D.Device (the_second (length core.old) self.old.processor.works.registers k) self.old core.old (k result self.new.processor.works.registers) self.new core.new }
         ensures moved { self.new.processor.works.registers ≡ advanced (length core.old) 1 self.old.processor.works.registers }
-        ensures long { length core.new ≡ length core.old }
-        ensures books { self.new.processor.books ≡ self.old.processor.books }
-        ensures grows { spent self.new.processor ≤ spent self.old.processor + 8 }
+        ensures within { Within 8 self.old.processor self.new.processor }
     {
         let word = self.read(core, self.processor.works.registers.i);
         let size = self.processor.books.size;
@@ -65,13 +64,10 @@ impl<A: ChannelDevice, B: ChannelDevice, C: ChannelDevice, D: Device> Engine<A, 
 
     // An address, or with bit 8 on the word that stands there.
     pub(crate) fn indirect(&mut self, core: &mut [u32], on: bool, address: u16) -> u16
-        requires fits { Fits self.old.processor core.old }
-        requires small { spent self.old.processor < 2 ^ 30 }
+        requires room { Room (2 ^ 30) self.old.processor core.old }
         ensures goes { (k : ℕ → Plan) → Goes A.Device B.Device C.Device D.Device (indirectly on address k) self.old core.old (k result) self.new core.new }
         ensures same { self.new.processor.works.registers ≡ self.old.processor.works.registers }
-        ensures long { length core.new ≡ length core.old }
-        ensures books { self.new.processor.books ≡ self.old.processor.books }
-        ensures grows { spent self.new.processor ≤ spent self.old.processor + 8 }
+        ensures within { Within 8 self.old.processor self.new.processor }
     {
         if on {
             self.read(core, address)
@@ -82,13 +78,10 @@ impl<A: ChannelDevice, B: ChannelDevice, C: ChannelDevice, D: Device> Engine<A, 
 
     // The effective address, from the register that a tag names. The tag is apart from the fields because STX has no index.
     pub(crate) fn effective(&mut self, core: &mut [u32], tag: Option<Index>, fields: &Fields) -> u16
-        requires fits { Fits self.old.processor core.old }
-        requires small { spent self.old.processor < 2 ^ 29 }
+        requires room { Room (2 ^ 29) self.old.processor core.old }
         ensures goes { (k : ℕ → Registers → Plan) → Goes A.Device B.Device C.Device D.Device (formed_of fields.now.long (length core.old) tag fields.now self.old.processor.works.registers k) self.old core.old (k result self.new.processor.works.registers) self.new core.new }
         ensures moved { self.new.processor.works.registers ≡ with_i self.new.processor.works.registers.i self.old.processor.works.registers }
-        ensures long { length core.new ≡ length core.old }
-        ensures books { self.new.processor.books ≡ self.old.processor.books }
-        ensures grows { spent self.new.processor ≤ spent self.old.processor + 16 }
+        ensures within { Within 16 self.old.processor self.new.processor }
     {
         if !fields.long {
             let registers = &self.processor.works.registers;
@@ -101,13 +94,10 @@ impl<A: ChannelDevice, B: ChannelDevice, C: ChannelDevice, D: Device> Engine<A, 
 
     // What a short form has in the displacement and a long form in its second word, or at the address there.
     pub(crate) fn value(&mut self, core: &mut [u32], fields: &Fields) -> u16
-        requires fits { Fits self.old.processor core.old }
-        requires small { spent self.old.processor < 2 ^ 29 }
+        requires room { Room (2 ^ 29) self.old.processor core.old }
         ensures goes { (k : ℕ → Registers → Plan) → Goes A.Device B.Device C.Device D.Device (value_of (length core.old) fields.now self.old.processor.works.registers k) self.old core.old (k result self.new.processor.works.registers) self.new core.new }
         ensures moved { self.new.processor.works.registers ≡ with_i self.new.processor.works.registers.i self.old.processor.works.registers }
-        ensures long { length core.new ≡ length core.old }
-        ensures books { self.new.processor.books ≡ self.old.processor.books }
-        ensures grows { spent self.new.processor ≤ spent self.old.processor + 16 }
+        ensures within { Within 16 self.old.processor self.new.processor }
     {
         if !fields.long {
             return fields.displacement;
@@ -115,34 +105,57 @@ impl<A: ChannelDevice, B: ChannelDevice, C: ChannelDevice, D: Device> Engine<A, 
         let address = self.second(core);
         self.indirect(core, fields.indirect, address)
     }
+}
 
-    // The word at the effective address.
-    pub(crate) fn operand(&mut self, core: &mut [u32], fields: &Fields) -> u16
-        requires fits { Fits self.old.processor core.old }
-        requires small { spent self.old.processor < 2 ^ 29 }
-        ensures goes { (k : ℕ → Plan) → Goes A.Device B.Device C.Device D.Device (single (length core.old) fields.now self.old.processor.works.registers k) self.old core.old (k result) self.new core.new }
-        ensures moved { self.new.processor.works.registers ≡ with_i self.new.processor.works.registers.i self.old.processor.works.registers }
-        ensures long { length core.new ≡ length core.old }
-        ensures books { self.new.processor.books ≡ self.old.processor.books }
-        ensures grows { spent self.new.processor ≤ spent self.old.processor + 24 }
-    {
-        let address = self.effective(core, fields.tag, fields);
-        self.read(core, address)
+// What an operation reads before it works: a word, or two as one number.
+pub(crate) trait Fetched: Copy {
+    // what any of them is known to keep to, and how a plan reads one
+    ghost fits: { Self → Type 0 };
+
+    ghost reads: { ℕ → Fields → Registers → (Self → Plan) → Plan };
+
+    fn fetch<A: ChannelDevice, B: ChannelDevice, C: ChannelDevice, D: Device>(
+        engine: &mut Engine<A, B, C, D>,
+        core: &mut [u32],
+        fields: &Fields,
+    ) -> Self
+        requires room { Room (2 ^ 29) engine.old.processor core.old }
+        ensures goes { (k : Self → Plan) → Goes A.Device B.Device C.Device D.Device (reads (length core.old) fields.now engine.old.processor.works.registers k) engine.old core.old (k result) engine.new core.new }
+        ensures fits { fits result }
+        ensures moved { engine.new.processor.works.registers ≡ with_i engine.new.processor.works.registers.i engine.old.processor.works.registers }
+        ensures within { Within 32 engine.old.processor engine.new.processor };
+}
+
+// The word at the effective address.
+impl Fetched for u16 {
+    ghost fits = { λ v. v < 2 ^ 16 };
+
+    ghost reads = { single };
+
+    fn fetch<A: ChannelDevice, B: ChannelDevice, C: ChannelDevice, D: Device>(
+        engine: &mut Engine<A, B, C, D>,
+        core: &mut [u32],
+        fields: &Fields,
+    ) -> u16 {
+        let address = engine.effective(core, fields.tag, fields);
+        engine.read(core, address)
     }
+}
 
-    // The words at the effective address and at its odd partner, as one number.
-    pub(crate) fn double_operand(&mut self, core: &mut [u32], fields: &Fields) -> u32
-        requires fits { Fits self.old.processor core.old }
-        requires small { spent self.old.processor < 2 ^ 29 }
-        ensures goes { (k : ℕ → Plan) → Goes A.Device B.Device C.Device D.Device (double (length core.old) fields.now self.old.processor.works.registers k) self.old core.old (k result) self.new core.new }
-        ensures moved { self.new.processor.works.registers ≡ with_i self.new.processor.works.registers.i self.old.processor.works.registers }
-        ensures long { length core.new ≡ length core.old }
-        ensures books { self.new.processor.books ≡ self.old.processor.books }
-        ensures grows { spent self.new.processor ≤ spent self.old.processor + 32 }
-    {
-        let address = self.effective(core, fields.tag, fields);
-        let high = self.read(core, address);
-        let low = self.read(core, odd(address));
+// The words at the effective address and at its odd partner, as one number.
+impl Fetched for u32 {
+    ghost fits = { λ v. v < 2 ^ 32 };
+
+    ghost reads = { double };
+
+    fn fetch<A: ChannelDevice, B: ChannelDevice, C: ChannelDevice, D: Device>(
+        engine: &mut Engine<A, B, C, D>,
+        core: &mut [u32],
+        fields: &Fields,
+    ) -> u32 {
+        let address = engine.effective(core, fields.tag, fields);
+        let high = engine.read(core, address);
+        let low = engine.read(core, odd(address));
         u32::from(high) * 65_536 + u32::from(low)
     }
 }

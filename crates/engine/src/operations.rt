@@ -1,26 +1,22 @@
 // The operations, each by its first word, I already past that word.
-ghost use Rattle.std.specs.Prelude.{◌≡◌, ℕ, ◌+◌, ◌^◌, ◌<◌, ◌≤◌, length};
+ghost use Rattle.std.specs.Prelude.{ℕ, ◌^◌};
 ghost use Rattle.instruction.specs.declared.words.Operation.TheVariants.{ExecuteIo, Store, StoreDouble};
-ghost use Rattle.engine.specs.Plan.{done};
-ghost use Rattle.engine.specs.Instructions.{operation as the_operation};
-ghost use Rattle.engine.specs.Code.{Fits, spent, Goes, makes};
+ghost use Rattle.engine.specs.Code.{Room, Within, Operates};
 
 use crate::engine::Engine;
 use crate::operands::odd;
 use crate::references::place;
 use device::interface::{ChannelDevice, Device};
 use instruction::words::{Fields, Operation};
+use registers::state::Registers;
 use works::panel::RunState;
 
 impl<A: ChannelDevice, B: ChannelDevice, C: ChannelDevice, D: Device> Engine<A, B, C, D> {
     // XIO
     pub(crate) fn execute_io(&mut self, core: &mut [u32], fields: &Fields)
-        requires fits { Fits self.old.processor core.old }
-        requires small { spent self.old.processor < 2 ^ 29 }
-        ensures goes { (w : ℕ) → Goes A.Device B.Device C.Device D.Device (the_operation (makes A.Device B.Device C.Device D.Device) (length core.old) ExecuteIo fields.now w self.old.processor.works.registers) self.old core.old done self.new core.new }
-        ensures long { length core.new ≡ length core.old }
-        ensures books { self.new.processor.books ≡ self.old.processor.books }
-        ensures grows { spent self.new.processor ≤ spent self.old.processor + 64 }
+        requires room { Room (2 ^ 29) self.old.processor core.old }
+        ensures goes { (w : ℕ) → Operates A.Device B.Device C.Device D.Device ExecuteIo fields.now w self.old core.old self.new core.new }
+        ensures within { Within 64 self.old.processor self.new.processor }
     {
         let ea = self.effective(core, fields.tag, fields);
         let address = self.read(core, ea);
@@ -31,12 +27,9 @@ impl<A: ChannelDevice, B: ChannelDevice, C: ChannelDevice, D: Device> Engine<A, 
 
     // STO
     pub(crate) fn store_word(&mut self, core: &mut [u32], fields: &Fields)
-        requires fits { Fits self.old.processor core.old }
-        requires small { spent self.old.processor < 2 ^ 29 }
-        ensures goes { (w : ℕ) → Goes A.Device B.Device C.Device D.Device (the_operation (makes A.Device B.Device C.Device D.Device) (length core.old) Store fields.now w self.old.processor.works.registers) self.old core.old done self.new core.new }
-        ensures long { length core.new ≡ length core.old }
-        ensures books { self.new.processor.books ≡ self.old.processor.books }
-        ensures grows { spent self.new.processor ≤ spent self.old.processor + 64 }
+        requires room { Room (2 ^ 29) self.old.processor core.old }
+        ensures goes { (w : ℕ) → Operates A.Device B.Device C.Device D.Device Store fields.now w self.old core.old self.new core.new }
+        ensures within { Within 64 self.old.processor self.new.processor }
     {
         let address = self.effective(core, fields.tag, fields);
         self.store(core, address, self.processor.works.registers.a);
@@ -44,12 +37,9 @@ impl<A: ChannelDevice, B: ChannelDevice, C: ChannelDevice, D: Device> Engine<A, 
 
     // STD. The odd word is stored first.
     pub(crate) fn store_double(&mut self, core: &mut [u32], fields: &Fields)
-        requires fits { Fits self.old.processor core.old }
-        requires small { spent self.old.processor < 2 ^ 29 }
-        ensures goes { (w : ℕ) → Goes A.Device B.Device C.Device D.Device (the_operation (makes A.Device B.Device C.Device D.Device) (length core.old) StoreDouble fields.now w self.old.processor.works.registers) self.old core.old done self.new core.new }
-        ensures long { length core.new ≡ length core.old }
-        ensures books { self.new.processor.books ≡ self.old.processor.books }
-        ensures grows { spent self.new.processor ≤ spent self.old.processor + 64 }
+        requires room { Room (2 ^ 29) self.old.processor core.old }
+        ensures goes { (w : ℕ) → Operates A.Device B.Device C.Device D.Device StoreDouble fields.now w self.old core.old self.new core.new }
+        ensures within { Within 64 self.old.processor self.new.processor }
     {
         let address = self.effective(core, fields.tag, fields);
         self.store(core, odd(address), self.processor.works.registers.q);
@@ -64,12 +54,9 @@ impl<A: ChannelDevice, B: ChannelDevice, C: ChannelDevice, D: Device> Engine<A, 
         fields: &Fields,
         word: u16,
     )
-        requires fits { Fits self.old.processor core.old }
-        requires small { spent self.old.processor < 2 ^ 29 }
-        ensures goes { Goes A.Device B.Device C.Device D.Device (the_operation (makes A.Device B.Device C.Device D.Device) (length core.old) operation fields.now word self.old.processor.works.registers) self.old core.old done self.new core.new }
-        ensures long { length core.new ≡ length core.old }
-        ensures books { self.new.processor.books ≡ self.old.processor.books }
-        ensures grows { spent self.new.processor ≤ spent self.old.processor + 64 }
+        requires room { Room (2 ^ 29) self.old.processor core.old }
+        ensures goes { Operates A.Device B.Device C.Device D.Device operation fields.now word self.old core.old self.new core.new }
+        ensures within { Within 64 self.old.processor self.new.processor }
     {
         match operation {
             Operation::ExecuteIo => self.execute_io(core, fields),
@@ -83,21 +70,31 @@ impl<A: ChannelDevice, B: ChannelDevice, C: ChannelDevice, D: Device> Engine<A, 
             Operation::LoadIndex => self.load_index(core, fields),
             Operation::StoreIndex => self.store_index(core, fields),
             Operation::ModifyIndex => self.modify_index(core, fields),
-            Operation::Add => self.add(core, fields),
-            Operation::AddDouble => self.add_double(core, fields),
-            Operation::Subtract => self.subtract(core, fields),
-            Operation::SubtractDouble => self.subtract_double(core, fields),
-            Operation::Multiply => self.multiply(core, fields),
-            Operation::Divide => self.divide(core, fields),
-            Operation::Compare => self.compare(core, fields),
-            Operation::CompareDouble => self.compare_double(core, fields),
-            Operation::Load => self.load(core, fields),
-            Operation::LoadDouble => self.load_double(core, fields),
+            Operation::Add => self.with_operand(core, fields, Registers::add::<u16>),
+            Operation::AddDouble => self.with_operand(core, fields, Registers::add::<u32>),
+            Operation::Subtract => self.with_operand(core, fields, Registers::subtract::<u16>),
+            Operation::SubtractDouble => self.with_operand(
+                core,
+                fields,
+                Registers::subtract::<u32>,
+            ),
+            Operation::Multiply => self.with_operand(core, fields, Registers::multiply),
+            Operation::Divide => self.with_operand(core, fields, Registers::divide),
+            Operation::Compare => {
+                let comparison = self.with_operand(core, fields, Registers::compare::<u16>);
+                self.skip_by(comparison);
+            }
+            Operation::CompareDouble => {
+                let comparison = self.with_operand(core, fields, Registers::compare::<u32>);
+                self.skip_by(comparison);
+            }
+            Operation::Load => self.with_operand(core, fields, Registers::load::<u16>),
+            Operation::LoadDouble => self.with_operand(core, fields, Registers::load::<u32>),
             Operation::Store => self.store_word(core, fields),
             Operation::StoreDouble => self.store_double(core, fields),
-            Operation::And => self.and(core, fields),
-            Operation::Or => self.or(core, fields),
-            Operation::ExclusiveOr => self.exclusive_or(core, fields),
+            Operation::And => self.with_operand(core, fields, Registers::and),
+            Operation::Or => self.with_operand(core, fields, Registers::or),
+            Operation::ExclusiveOr => self.with_operand(core, fields, Registers::exclusive_or),
         }
     }
 }

@@ -1,6 +1,6 @@
 // The devices by position, as XIO asks for them.
 ghost use Rattle.std.specs.Prelude.{◌≡◌, ℕ, List};
-ghost use Rattle.device.specs.Calls.{command_answer, sense_answer, get_place, word_at};
+ghost use Rattle.device.specs.Calls.{command_answer, sense_answer};
 ghost use Rattle.works.specs.Faults.{by_channel, recorded};
 ghost use Rattle.engine.specs.Machine.{dev_at, position_number};
 ghost use Rattle.engine.specs.Events.{put as the_put, get as the_get, command as the_command, sense as the_sense};
@@ -11,9 +11,22 @@ ghost use Rattle.engine.specs.Code.{view, makes, Does};
 
 use crate::engine::Engine;
 use crate::place::Position;
+use device::control::ControlWord;
 use device::interface::{ChannelDevice, Device};
 use works::chain::command;
 use works::fault::Fault;
+
+// Calls a method of the device at a position. The four have types of their own, so no function could hand out the one that is meant.
+macro_rules! device_at {
+    ($engine:ident, $position:ident, $method:ident($($argument:ident),*)) => {
+        match $position {
+            Position::First => $engine.first.$method($($argument),*),
+            Position::Second => $engine.second.$method($($argument),*),
+            Position::Third => $engine.third.$method($($argument),*),
+            Position::Fourth => $engine.fourth.$method($($argument),*),
+        }
+    };
+}
 
 impl<A: ChannelDevice, B: ChannelDevice, C: ChannelDevice, D: Device> Engine<A, B, C, D> {
     // The first device that answers to an area.
@@ -36,23 +49,13 @@ impl<A: ChannelDevice, B: ChannelDevice, C: ChannelDevice, D: Device> Engine<A, 
     pub(crate) fn operating(&self, position: Position) -> bool
         ensures { (core : List ℕ) → result ≡ (make_at position (makes A.Device B.Device C.Device D.Device)).operating (dev_at position (view A.Device B.Device C.Device D.Device self.now core)).control }
     {
-        match position {
-            Position::First => self.first.operating(),
-            Position::Second => self.second.operating(),
-            Position::Third => self.third.operating(),
-            Position::Fourth => self.fourth.operating(),
-        }
+        device_at!(self, position, operating())
     }
 
     pub(crate) fn kind_of(&self, position: Position) -> u32
         ensures { result ≡ (make_at position (makes A.Device B.Device C.Device D.Device)).kind }
     {
-        match position {
-            Position::First => self.first.kind(),
-            Position::Second => self.second.kind(),
-            Position::Third => self.third.kind(),
-            Position::Fourth => self.fourth.kind(),
-        }
+        device_at!(self, position, kind())
     }
 
     // Hands a device a word.
@@ -60,12 +63,7 @@ impl<A: ChannelDevice, B: ChannelDevice, C: ChannelDevice, D: Device> Engine<A, 
         ensures after { (core : List ℕ) → Does A.Device B.Device C.Device D.Device (λ m. calling m position (the_put area word)) self.old core self.new core }
         ensures processor { self.new.processor ≡ self.old.processor }
     {
-        match position {
-            Position::First => self.first.put(area, word),
-            Position::Second => self.second.put(area, word),
-            Position::Third => self.third.put(area, word),
-            Position::Fourth => self.fourth.put(area, word),
-        }
+        device_at!(self, position, put(area, word))
     }
 
     // Gets a word from a device.
@@ -74,12 +72,7 @@ impl<A: ChannelDevice, B: ChannelDevice, C: ChannelDevice, D: Device> Engine<A, 
         ensures after { (core : List ℕ) → Does A.Device B.Device C.Device D.Device (λ m. calling m position (the_get area)) self.old core self.new core }
         ensures processor { self.new.processor ≡ self.old.processor }
     {
-        match position {
-            Position::First => self.first.get(area),
-            Position::Second => self.second.get(area),
-            Position::Third => self.third.get(area),
-            Position::Fourth => self.fourth.get(area),
-        }
+        device_at!(self, position, get(area))
     }
 
     // Senses a device: its status.
@@ -88,32 +81,26 @@ impl<A: ChannelDevice, B: ChannelDevice, C: ChannelDevice, D: Device> Engine<A, 
         ensures after { (core : List ℕ) → Does A.Device B.Device C.Device D.Device (λ m. calling m position (the_sense area modifier)) self.old core self.new core }
         ensures processor { self.new.processor ≡ self.old.processor }
     {
-        match position {
-            Position::First => self.first.sense(area, modifier),
-            Position::Second => self.second.sense(area, modifier),
-            Position::Third => self.third.sense(area, modifier),
-            Position::Fourth => self.fourth.sense(area, modifier),
-        }
+        device_at!(self, position, sense(area, modifier))
     }
 
     // Commands a device. A refusal is recorded at the address of the control pair.
     pub(crate) fn command(
         &mut self,
         position: Position,
-        area: u32,
-        function: u32,
-        modifier: u32,
+        order: ControlWord,
         at: u16,
     ) -> Result<(), Fault>
-        ensures answer { (core : List ℕ) → result ≡ recorded at (position_number position) (make_at position (makes A.Device B.Device C.Device D.Device)).kind (by_channel (command_answer (make_at position (makes A.Device B.Device C.Device D.Device)) (dev_at position (view A.Device B.Device C.Device D.Device self.old core)).control area function)) }
-        ensures after { (core : List ℕ) → Does A.Device B.Device C.Device D.Device (λ m. calling m position (the_command area function modifier)) self.old core self.new core }
+        ensures answer { (core : List ℕ) → result ≡ recorded at (position_number position) (make_at position (makes A.Device B.Device C.Device D.Device)).kind (by_channel (command_answer (make_at position (makes A.Device B.Device C.Device D.Device)) (dev_at position (view A.Device B.Device C.Device D.Device self.old core)).control order.area order.function)) }
+        ensures after { (core : List ℕ) → Does A.Device B.Device C.Device D.Device (λ m. calling m position (the_command order.area order.function order.modifier)) self.old core self.new core }
         ensures processor { self.new.processor ≡ self.old.processor }
     {
+        let by = position.number();
         match position {
-            Position::First => command(&mut self.first, area, function, modifier, at, 1),
-            Position::Second => command(&mut self.second, area, function, modifier, at, 2),
-            Position::Third => command(&mut self.third, area, function, modifier, at, 3),
-            Position::Fourth => command(&mut self.fourth, area, function, modifier, at, 4),
+            Position::First => command(&mut self.first, order, at, by),
+            Position::Second => command(&mut self.second, order, at, by),
+            Position::Third => command(&mut self.third, order, at, by),
+            Position::Fourth => command(&mut self.fourth, order, at, by),
         }
     }
 }

@@ -1,13 +1,14 @@
 // References to core, for the program and for devices.
-ghost use Rattle.std.specs.Prelude.{◌≡◌, ℕ, ◌%◌, ◌^◌, ◌<◌, List, length, slice_index};
+ghost use Rattle.std.specs.Prelude.{◌≡◌, ◌%◌, ◌^◌, ◌<◌, length, slice_index};
 ghost use Rattle.storage.specs.Word.{data_of as the_data};
 ghost use Rattle.engine.specs.Machine.{words_of_size};
 ghost use Rattle.engine.specs.Cycle.{reading, storing, marking};
-ghost use Rattle.engine.specs.Code.{Fits, spent, Refers, Keeps};
+ghost use Rattle.engine.specs.Code.{Room, Fits, Refers, Keeps};
 ghost use Rattle.engine.specs.declared.place.By.{By};
 
 use crate::place::By;
-use crate::state::{CoreSize, Processor};
+use crate::state::Processor;
+use storage::memory::CoreSize;
 use storage::word::{data_of, is_protected, parity_is_right, stored, word_of};
 
 // An address modulo the core's size. The remainder by a literal is a mask.
@@ -26,8 +27,7 @@ pub(crate) fn place(size: CoreSize, address: u16) -> u16
 impl Processor {
     // Reads a word: its data, and a parity check if parity is wrong.
     pub(crate) fn read_word(&mut self, core: &[u32], by: By, address: u16) -> u16
-        requires fits { Fits self.old core.now }
-        requires small { spent self.old < 2 ^ 31 }
+        requires room { Room (2 ^ 31) self.old core.now }
         ensures word { result ≡ the_data (slice_index core.now (address % length core.now)) }
         ensures after { Refers by (reading address) self.old core.now self.new core.now }
         ensures keeps { Keeps 1 self.old self.new }
@@ -43,10 +43,8 @@ impl Processor {
 
     // Stores data, with the old protect bit; into a protected word it is dropped, with a protect check.
     pub(crate) fn store_word(&mut self, core: &mut [u32], by: By, address: u16, value: u16)
-        requires fits { Fits self.old core.old }
-        requires small { spent self.old < 2 ^ 31 }
+        requires room { Room (2 ^ 31) self.old core.old }
         ensures after { Refers by (storing address value) self.old core.old self.new core.new }
-        ensures long { length core.new ≡ length core.old }
         ensures keeps { Keeps 1 self.old self.new }
     {
         let at = place(self.books.size, address);
@@ -63,7 +61,6 @@ impl Processor {
     pub(crate) fn mark_word(&mut self, core: &mut [u32], address: u16, on: bool, value: u16)
         requires fits { Fits self.old core.old }
         ensures after { (by : By) → Refers by (marking address on value) self.old core.old self.new core.new }
-        ensures long { length core.new ≡ length core.old }
         ensures same { self.new ≡ self.old }
     {
         if self.books.switches.write_protect {

@@ -2,11 +2,12 @@
 // of the process; the tally of one step; and the books, which no instruction touches.
 use levels::state::{Flags, Masks, Points, Service};
 use registers::state::Registers;
+use storage::memory::CoreSize;
 use works::channel::Channel;
 use works::fault::Fault;
 use works::panel::{Counts, RunState, Switches};
 
-#[derive(Clone, Copy)]
+#[derive(Clone, Copy, PartialEq, Eq, Debug)]
 pub struct Works {
     pub registers: Registers,
     pub masks: Masks,
@@ -19,7 +20,7 @@ pub struct Works {
 }
 
 // What one step did: its cycles, how many faults there were, the first of them, and whether any was a check.
-#[derive(Clone, Copy)]
+#[derive(Clone, Copy, PartialEq, Eq, Debug, Default)]
 pub struct Tally {
     pub counts: Counts,
     pub faults: u32,
@@ -28,14 +29,14 @@ pub struct Tally {
 }
 
 // Where a device's interrupt line ends: a bit of a level's status word.
-#[derive(Clone, Copy)]
+#[derive(Clone, Copy, PartialEq, Eq, Debug)]
 pub struct Wire {
     pub level: usize,
     pub bit: u32,
 }
 
 // The four lines, by the devices' positions.
-#[derive(Clone, Copy)]
+#[derive(Clone, Copy, PartialEq, Eq, Debug)]
 pub struct Wiring {
     pub first: Wire,
     pub second: Wire,
@@ -43,27 +44,19 @@ pub struct Wiring {
     pub fourth: Wire,
 }
 
-// The four sizes of core.
-#[derive(Clone, Copy)]
-pub enum CoreSize {
-    Words4096,
-    Words8192,
-    Words16384,
-    Words32768,
-}
-
-#[derive(Clone, Copy)]
+#[derive(Clone, Copy, PartialEq, Eq, Debug)]
 pub struct Books {
     pub switches: Switches,
     // since opening, or since the last accepted count
     pub totals: Counts,
-    // the size of the core that was opened, and whether the opening was accepted
+    // the size of the core that was opened, and whether the opening was accepted. It is no Option: no step is taken unless it was, and
+    // every address of a step would have to take the size out again
     pub size: CoreSize,
     pub accepted: bool,
     pub wiring: Wiring,
 }
 
-#[derive(Clone, Copy)]
+#[derive(Clone, Copy, PartialEq, Eq, Debug)]
 pub struct Processor {
     pub works: Works,
     pub points: Points,
@@ -72,7 +65,7 @@ pub struct Processor {
 }
 
 // What a step answers.
-#[derive(Clone, Copy)]
+#[derive(Clone, Copy, PartialEq, Eq, Debug)]
 pub struct Report {
     pub counts: Counts,
     pub run: RunState,

@@ -1,7 +1,7 @@
 // Status words of the levels, what is due, and what a sense of interrupts answers.
-ghost use Rattle.std.specs.Prelude.{◌≡◌, ℕ, ◌-◌, ◌^◌, ◌<◌, ◌&&◌, List, if◌then◌else◌, Some, ◌==◌};
+ghost use Rattle.std.specs.Prelude.{◌≡◌, ℕ, ◌-◌, ◌^◌, ◌<◌, ◌&&◌, List, if◌then◌else◌, Some, ◌==◌, bit_or, slice_index};
 ghost use Rattle.levels.specs.declared.state.Interrupt.TheVariants.{Level};
-ghost use Rattle.engine.specs.Levels.{lines_at as the_lines, level_status as the_status, statuses as the_statuses, status_of, due_now, sensed_status as the_sensed};
+ghost use Rattle.engine.specs.Levels.{lines_at as the_lines, level_status as the_status, statuses as the_statuses, due_now, sensed_status as the_sensed};
 ghost use Rattle.engine.specs.Code.{view, makes};
 
 use crate::engine::Engine;
@@ -9,14 +9,32 @@ use crate::state::Wire;
 use device::interface::{ChannelDevice, Device};
 use levels::state::{Interrupt, LEVELS};
 
-// The bit that a raised line gives to a level.
-fn line_bit(wire: Wire, raised: bool, level: usize) -> u16
-    ensures { result ≡ (if wire.level == level && raised then 2 ^ (15 - wire.bit) else 0) }
-{
-    if wire.level == level && raised {
-        1u16 << 15u32.saturating_sub(wire.bit)
-    } else {
-        0
+impl Wire {
+    // Its bit of a status word. Bit 0 is the leftmost.
+    fn mask(self) -> u16
+        ensures { result ≡ 2 ^ (15 - self.bit) }
+    {
+        1 << 15u32.saturating_sub(self.bit)
+    }
+
+    // The bit that a raised line gives to a level.
+    fn bit_at(self, level: usize, raised: bool) -> u16
+        ensures { result ≡ (if self.level == level && raised then 2 ^ (15 - self.bit) else 0) }
+    {
+        if self.level == level && raised {
+            self.mask()
+        } else {
+            0
+        }
+    }
+
+    // Adds a raised line to the levels' words. Nothing changes where there is no such level.
+    fn raise(self, raised: bool, words: &mut [u16; LEVELS])
+        ensures { (level : ℕ) → level < 24 → slice_index words.new level ≡ bit_or (slice_index words.old level) (if self.level == level && raised then 2 ^ (15 - self.bit) else 0) }
+    {
+        if raised && self.level < LEVELS {
+            words[self.level] |= self.mask();
+        }
     }
 }
 
@@ -25,10 +43,10 @@ impl<A: ChannelDevice, B: ChannelDevice, C: ChannelDevice, D: Device> Engine<A, 
         ensures { (core : List ℕ) → result ≡ the_lines (makes A.Device B.Device C.Device D.Device) (view A.Device B.Device C.Device D.Device self.now core) level }
     {
         let wiring = self.processor.books.wiring;
-        let first = line_bit(wiring.first, self.first.line(), level);
-        let second = line_bit(wiring.second, self.second.line(), level);
-        let third = line_bit(wiring.third, self.third.line(), level);
-        let fourth = line_bit(wiring.fourth, self.fourth.line(), level);
+        let first = wiring.first.bit_at(level, self.first.line());
+        let second = wiring.second.bit_at(level, self.second.line());
+        let third = wiring.third.bit_at(level, self.third.line());
+        let fourth = wiring.fourth.bit_at(level, self.fourth.line());
         first | (second | (third | fourth))
     }
 
@@ -39,13 +57,16 @@ impl<A: ChannelDevice, B: ChannelDevice, C: ChannelDevice, D: Device> Engine<A, 
         self.processor.points.status(level, self.lines_at(level))
     }
 
-    fn statuses(&self) -> [u16; 24]
+    // The status words of all levels. Every step needs them, so each line is asked once and not once a level.
+    fn statuses(&self) -> [u16; LEVELS]
         ensures { (core : List ℕ) → result ≡ the_statuses (makes A.Device B.Device C.Device D.Device) (view A.Device B.Device C.Device D.Device self.now core) 0 24 }
     {
-        let mut words = [0u16; 24];
-        for level in 0..LEVELS {
-            words[level] = self.level_status(level);
-        }
+        let wiring = self.processor.books.wiring;
+        let mut words = self.processor.points.words;
+        wiring.first.raise(self.first.line(), &mut words);
+        wiring.second.raise(self.second.line(), &mut words);
+        wiring.third.raise(self.third.line(), &mut words);
+        wiring.fourth.raise(self.fourth.line(), &mut words);
         words
     }
 
@@ -55,27 +76,23 @@ impl<A: ChannelDevice, B: ChannelDevice, C: ChannelDevice, D: Device> Engine<A, 
         ensures is { (core : List ℕ) → result ≡ due_now (makes A.Device B.Device C.Device D.Device) (view A.Device B.Device C.Device D.Device self.now core) }
     {
         let works = &self.processor.works;
-        works
-            .service
-            .due(&works.flags, &works.masks, &self.statuses())
-    }
-
-    fn status_of(&self, interrupt: Interrupt) -> u16
-        ensures { (core : List ℕ) → result ≡ status_of (Some interrupt) (makes A.Device B.Device C.Device D.Device) (view A.Device B.Device C.Device D.Device self.now core) }
-    {
-        match interrupt {
-            Interrupt::Internal => self.processor.works.flags.word(),
-            Interrupt::Level(level) => self.level_status(level),
+        let words = self.statuses();
+        // So it is at most steps: no level has to be gone through.
+        if works.flags.word() == 0 && words == [0; LEVELS] {
+            return None;
         }
+        works.service.due(&works.flags, &works.masks, &words)
     }
 
     // The status of the highest level in service, or 0.
     pub(crate) fn sensed_status(&self) -> u16
         ensures { (core : List ℕ) → result ≡ the_sensed (makes A.Device B.Device C.Device D.Device) (view A.Device B.Device C.Device D.Device self.now core) }
     {
-        match self.processor.works.service.highest() {
+        let works = &self.processor.works;
+        match works.service.highest() {
             None => 0,
-            Some(interrupt) => self.status_of(interrupt),
+            Some(Interrupt::Internal) => works.flags.word(),
+            Some(Interrupt::Level(level)) => self.level_status(level),
         }
     }
 }

@@ -1,9 +1,9 @@
 // Stolen cycles, and the offers before every other cycle.
-ghost use Rattle.std.specs.Prelude.{◌≡◌, ℕ, suc, ◌+◌, ◌^◌, ◌<◌, List, length, Some};
+ghost use Rattle.std.specs.Prelude.{◌≡◌, ℕ, suc, ◌+◌, ◌^◌, ◌<◌, List, Some};
 ghost use Rattle.engine.specs.Events.{passed};
 ghost use Rattle.engine.specs.Makes.{calling_all};
-ghost use Rattle.engine.specs.Cycle.{transferring, finished, steal as the_steal, all_wishes, chosen as the_chosen, channel_in as the_channel, turns, offers as the_offers};
-ghost use Rattle.engine.specs.Code.{Fits, spent, Keeps, view, makes, Does, left_turns};
+ghost use Rattle.engine.specs.Cycle.{transferring, finished, steal as the_steal, all_wishes, chosen as the_chosen, turns, offers as the_offers};
+ghost use Rattle.engine.specs.Code.{Room, Keeps, view, makes, Does, left_turns};
 
 use crate::engine::Engine;
 use crate::place::ChannelNumber;
@@ -11,16 +11,12 @@ use device::interface::{ChannelDevice, Device};
 use levels::choice::{Requester, first_behind};
 use works::channel::ChannelWish;
 
-// The channel at a place of the list of wishes.
-fn channel_in(at: usize) -> ChannelNumber
-    ensures { result ≡ the_channel at }
-{
-    match at {
-        0 => ChannelNumber::Channel1,
-        1 => ChannelNumber::Channel2,
-        _ => ChannelNumber::Channel3,
-    }
-}
+// The channels, as the list of wishes has them.
+const CHANNELS: [ChannelNumber; 3] = [
+    ChannelNumber::Channel1,
+    ChannelNumber::Channel2,
+    ChannelNumber::Channel3,
+];
 
 impl<A: ChannelDevice, B: ChannelDevice, C: ChannelDevice, D: Device> Engine<A, B, C, D> {
     // Tells every device that a cycle has passed.
@@ -34,12 +30,10 @@ impl<A: ChannelDevice, B: ChannelDevice, C: ChannelDevice, D: Device> Engine<A, 
         self.fourth.passed();
     }
 
-    // A channel's reference, with its own device.
+    // A channel's reference, with its own device. The three devices have types of their own, so each arm calls another instance.
     fn serve(&mut self, core: &mut [u32], number: ChannelNumber)
-        requires fits { Fits self.old.processor core.old }
-        requires small { spent self.old.processor < 2 ^ 31 }
+        requires room { Room (2 ^ 31) self.old.processor core.old }
         ensures after { Does A.Device B.Device C.Device D.Device (λ m. transferring m number) self.old core.old self.new core.new }
-        ensures long { length core.new ≡ length core.old }
         ensures keeps { Keeps 1 self.old.processor self.new.processor }
     {
         match number {
@@ -58,7 +52,7 @@ impl<A: ChannelDevice, B: ChannelDevice, C: ChannelDevice, D: Device> Engine<A, 
         }
     }
 
-    // The end of a channel's table, with its own device.
+    // The end of a channel's table, with its own device. As in `serve`.
     fn end_table(&mut self, number: ChannelNumber)
         ensures after { (core : List ℕ) → Does A.Device B.Device C.Device D.Device (λ m. finished m number) self.old core self.new core }
         ensures keeps { Keeps 0 self.old.processor self.new.processor }
@@ -81,10 +75,8 @@ impl<A: ChannelDevice, B: ChannelDevice, C: ChannelDevice, D: Device> Engine<A, 
 
     // A stolen cycle of a channel.
     fn steal(&mut self, core: &mut [u32], number: ChannelNumber)
-        requires fits { Fits self.old.processor core.old }
-        requires small { spent self.old.processor < 2 ^ 30 + 8 }
+        requires room { Room (2 ^ 30 + 8) self.old.processor core.old }
         ensures after { Does A.Device B.Device C.Device D.Device (λ m. the_steal m number) self.old core.old self.new core.new }
-        ensures long { length core.new ≡ length core.old }
         ensures keeps { Keeps 2 self.old.processor self.new.processor }
     {
         self.serve(core, number);
@@ -124,33 +116,27 @@ impl<A: ChannelDevice, B: ChannelDevice, C: ChannelDevice, D: Device> Engine<A, 
 
     // One turn of the offers: whoever is chosen steals a cycle. Answers its number.
     fn turn(&mut self, core: &mut [u32], behind: Option<usize>) -> Option<usize>
-        requires fits { Fits self.old.processor core.old }
-        requires small { spent self.old.processor < 2 ^ 30 + 8 }
+        requires room { Room (2 ^ 30 + 8) self.old.processor core.old }
         ensures after { (n : ℕ) → (turns (suc n) (makes A.Device B.Device C.Device D.Device) behind (view A.Device B.Device C.Device D.Device self.old core.old)).machine ≡ left_turns n (makes A.Device B.Device C.Device D.Device) result (view A.Device B.Device C.Device D.Device self.new core.new) }
-        ensures long { length core.new ≡ length core.old }
         ensures keeps { Keeps 2 self.old.processor self.new.processor }
     {
-        match self.chosen(behind) {
-            None => None,
-            Some(at) => {
-                self.steal(core, channel_in(at));
-                Some(at + 1)
-            }
-        }
+        let at = self.chosen(behind)?;
+        self.steal(core, CHANNELS[at]);
+        Some(at + 1)
     }
 
     // The offers before a program or idle cycle.
     pub(crate) fn offers(&mut self, core: &mut [u32])
-        requires fits { Fits self.old.processor core.old }
-        requires small { spent self.old.processor < 2 ^ 30 }
+        requires room { Room (2 ^ 30) self.old.processor core.old }
         ensures after { Does A.Device B.Device C.Device D.Device the_offers self.old core.old self.new core.new }
-        ensures long { length core.new ≡ length core.old }
         ensures keeps { Keeps 6 self.old.processor self.new.processor }
     {
-        if let Some(first) = self.turn(core, None) {
-            if let Some(second) = self.turn(core, Some(first)) {
-                self.turn(core, Some(second));
-            }
-        }
+        let Some(first) = self.turn(core, None) else {
+            return;
+        };
+        let Some(second) = self.turn(core, Some(first)) else {
+            return;
+        };
+        self.turn(core, Some(second));
     }
 }

@@ -1,30 +1,17 @@
 // The step: its refusals, what it does, and its end.
-ghost use Rattle.std.specs.Prelude.{◌≡◌, ℕ, ◌+◌, ◌^◌, ◌<◌, true, ◌&&◌, length, ◌==◌, nat_lt};
+ghost use Rattle.std.specs.Prelude.{◌≡◌, ◌+◌, ◌^◌, ◌<◌, ◌&&◌, ◌==◌, nat_lt};
 ghost use Rattle.engine.specs.Machine.{words_of_size as the_words};
-ghost use Rattle.engine.specs.Step.{no_tally, ended_step, told, lent_right as the_right, below_limit as the_limit, report_of as the_report, step as the_step, step_answer, step_machine};
-ghost use Rattle.engine.specs.Code.{spent, view, makes};
+ghost use Rattle.engine.specs.Step.{ended_step, told, report_of as the_report, step as the_step};
+ghost use Rattle.engine.specs.Code.{Fits, spent, Does, Steps};
 
 use crate::engine::Engine;
-use crate::state::{Books, CoreSize, Processor, Report, Tally};
+use crate::state::{Books, Processor, Report, Tally};
 use device::interface::{ChannelDevice, Device};
 use refusal::Refusal;
-use works::panel::{Counts, RunState};
+use works::panel::RunState;
 
 // Steps are refused from here on.
 const LIMIT: u64 = 1_000_000_000_000;
-
-impl CoreSize {
-    pub(crate) fn words(self) -> usize
-        ensures { result ≡ the_words self }
-    {
-        match self {
-            CoreSize::Words4096 => 4096,
-            CoreSize::Words8192 => 8192,
-            CoreSize::Words16384 => 16384,
-            CoreSize::Words32768 => 32768,
-        }
-    }
-}
 
 impl Books {
     // Whether a core of so many words is the one that was opened.
@@ -43,21 +30,6 @@ impl Books {
             && c.stolen < LIMIT
             && c.idle < LIMIT
             && c.program + c.stolen + c.idle < LIMIT
-    }
-}
-
-fn empty_tally() -> Tally
-    ensures { result ≡ no_tally }
-{
-    Tally {
-        counts: Counts {
-            program: 0,
-            stolen: 0,
-            idle: 0,
-        },
-        faults: 0,
-        first: None,
-        checked: false,
     }
 }
 
@@ -91,12 +63,12 @@ impl Processor {
 impl<A: ChannelDevice, B: ChannelDevice, C: ChannelDevice, D: Device> Engine<A, B, C, D> {
     // A step that is not refused.
     fn take_step(&mut self, core: &mut [u32]) -> Report
-        requires fits { length core.old ≡ the_words self.old.processor.books.size }
+        requires fits { Fits self.old.processor core.old }
         requires small { told self.old.processor.books.totals < 1000000000000 }
-        ensures after { view A.Device B.Device C.Device D.Device self.new core.new ≡ (the_step (makes A.Device B.Device C.Device D.Device) (view A.Device B.Device C.Device D.Device self.old core.old)).machine }
+        ensures after { Does A.Device B.Device C.Device D.Device the_step self.old core.old self.new core.new }
         ensures answer { result ≡ the_report self.new.processor }
     {
-        self.processor.tally = empty_tally();
+        self.processor.tally = Tally::default();
         self.act(core);
         self.processor.end_step();
         self.processor.report()
@@ -104,8 +76,7 @@ impl<A: ChannelDevice, B: ChannelDevice, C: ChannelDevice, D: Device> Engine<A, 
 
     // One step: what it answers, or why it is refused. A refused step changes nothing.
     pub fn step(&mut self, core: &mut [u32]) -> Result<Report, Refusal>
-        ensures answer { result ≡ step_answer (the_right (view A.Device B.Device C.Device D.Device self.old core.old)) (the_limit (view A.Device B.Device C.Device D.Device self.old core.old)) (makes A.Device B.Device C.Device D.Device) (view A.Device B.Device C.Device D.Device self.old core.old) }
-        ensures after { view A.Device B.Device C.Device D.Device self.new core.new ≡ step_machine (the_right (view A.Device B.Device C.Device D.Device self.old core.old)) (the_limit (view A.Device B.Device C.Device D.Device self.old core.old)) (makes A.Device B.Device C.Device D.Device) (view A.Device B.Device C.Device D.Device self.old core.old) }
+        ensures { Steps A.Device B.Device C.Device D.Device self.old core.old result self.new core.new }
     {
         if !self.processor.books.lent_right(core.len()) {
             return Err(Refusal::Length);

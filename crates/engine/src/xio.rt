@@ -1,33 +1,33 @@
 // XIO, by its address word and control word.
-ghost use Rattle.std.specs.Prelude.{◌≡◌, ℕ, ◌+◌, ◌*◌, ◌^◌, ◌<◌, ◌≤◌, Bool, ◌&&◌, List, length, Some, Ok, ◌==◌, nat_lt};
+ghost use Rattle.std.specs.Prelude.{◌≡◌, ℕ, ◌*◌, ◌^◌, ◌<◌, ◌&&◌, List, length, Some, Ok};
 ghost use Rattle.device.specs.declared.answer.DeviceFault.TheVariants.{NotTaken};
 ghost use Rattle.engine.specs.Levels.{cleared_by};
 ghost use Rattle.levels.specs.Interrupts.{highest};
-ghost use Rattle.engine.specs.Machine.{with_works};
-ghost use Rattle.engine.specs.Plan.{Plan, done, look, drop as the_drop, act, inquire, order as the_order};
-ghost use Rattle.engine.specs.Xio.{control_of as the_control, to_a, nobody as the_nobody, sense_interrupt as the_sense, channel_set, channel_for as the_channel, started as the_started, rested as the_rested, initializes as the_initializes, write_masks, read_switches, sense_switches as the_switches, asks_for as the_asks, area_zero as the_zero, move as the_move, commanded as the_commanded, refused as the_refused, without_channel, with_device as the_device, by_area as the_area, xio as the_xio};
-ghost use Rattle.engine.specs.Code.{Fits, spent, makes, Goes};
+ghost use Rattle.engine.specs.Plan.{done, drop as the_drop, act, inquire, order as the_order};
+ghost use Rattle.engine.specs.Xio.{to_a, nobody as the_nobody, sense_interrupt as the_sense, channel_set, channel_for as the_channel, started as the_started, rested as the_rested, initializes as the_initializes, write_masks, read_switches, sense_switches as the_switches, area_zero as the_zero, move as the_move, commanded as the_commanded, refused as the_refused, without_channel, with_device as the_device, by_area as the_area, xio as the_xio};
+ghost use Rattle.engine.specs.Code.{Room, Within, spent, makes, Goes};
 
-use crate::control::ControlWord;
 use crate::engine::Engine;
 use crate::place::{By, ChannelNumber, Position};
 use crate::references::place;
 use crate::state::Works;
 use device::answer::DeviceFault;
+use device::control::ControlWord;
+use device::function::{
+    CONTROL, INITIALIZE_READ, INITIALIZE_WRITE, READ, SENSE_DEVICE, SENSE_INTERRUPT, WRITE,
+};
 use device::interface::{ChannelDevice, Device};
 use levels::state::{Flags, Interrupt};
 use works::channel::Channel;
 use works::fault::{Cause, ChannelFault};
 use works::panel::Switches;
 
-fn control_of(word: u16) -> ControlWord
-    ensures { result ≡ the_control word }
-{
-    ControlWord {
-        area: u32::from(word / 2048 % 32),
-        function: u32::from(word / 256 % 8),
-        modifier: u32::from(word % 256),
-    }
+// The pair of words that XIO reads: where it stands, which fault records name, and the two words.
+#[derive(Clone, Copy, PartialEq, Eq, Debug)]
+struct IoPair {
+    at: u16,
+    address: u16,
+    control: ControlWord,
 }
 
 // The sense switches in the high byte.
@@ -37,43 +37,30 @@ fn sense_word(switches: Switches) -> u16
     u16::from(switches.sense) * 256
 }
 
-// Whether a control word asks for this function with this modifier.
-fn asks_for(control: ControlWord, function: u32, modifier: u32) -> bool
-    ensures { result ≡ the_asks control function modifier }
-{
-    control.function == function && control.modifier == modifier
-}
-
-fn drops(control: ControlWord) -> bool
-    ensures { result ≡ (control.function == 4 && nat_lt control.modifier 24) }
-{
-    control.function == 4 && control.modifier < 24
-}
-
 fn initializes(function: u32) -> bool
     ensures { result ≡ the_initializes function }
 {
-    function == 5 || function == 6
+    matches!(function, INITIALIZE_WRITE | INITIALIZE_READ)
 }
 
-fn channel_for(position: Position) -> Option<ChannelNumber>
-    ensures { result ≡ the_channel position }
-{
-    match position {
-        Position::First => Some(ChannelNumber::Channel1),
-        Position::Second => Some(ChannelNumber::Channel2),
-        Position::Third => Some(ChannelNumber::Channel3),
-        Position::Fourth => None,
+impl Position {
+    // Its channel, if it has one.
+    fn channel(self) -> Option<ChannelNumber>
+        ensures { result ≡ the_channel self }
+    {
+        match self {
+            Position::First => Some(ChannelNumber::Channel1),
+            Position::Second => Some(ChannelNumber::Channel2),
+            Position::Third => Some(ChannelNumber::Channel3),
+            Position::Fourth => None,
+        }
     }
-}
 
-// Whether this is Initialize for a device without a channel.
-fn unserved(position: Position, function: u32) -> bool
-    ensures { result ≡ (without_channel (the_channel position) && the_initializes function) }
-{
-    match position {
-        Position::First | Position::Second | Position::Third => false,
-        Position::Fourth => initializes(function),
+    // Whether this is Initialize for a device without a channel.
+    fn lacks_channel(self, function: u32) -> bool
+        ensures { result ≡ (without_channel (the_channel self) && the_initializes function) }
+    {
+        self.channel().is_none() && initializes(function)
     }
 }
 
@@ -82,18 +69,8 @@ impl Works {
     fn clear_sensed(&mut self)
         ensures { self.new ≡ cleared_by (highest self.old.service) self.old }
     {
-        match self.service.highest() {
-            None => {}
-            Some(interrupt) => match interrupt {
-                Interrupt::Internal => {
-                    self.flags = Flags {
-                        parity: false,
-                        operation: false,
-                        protect: false,
-                    };
-                }
-                Interrupt::Level(_) => {}
-            },
+        if let Some(Interrupt::Internal) = self.service.highest() {
+            self.flags = Flags::default();
         }
     }
 
@@ -137,8 +114,7 @@ impl<A: ChannelDevice, B: ChannelDevice, C: ChannelDevice, D: Device> Engine<A, 
     fn nobody(&mut self, at: u16)
         requires small { spent self.old.processor < 2 ^ 30 }
         ensures goes { (core : List ℕ) → Goes A.Device B.Device C.Device D.Device (the_nobody at) self.old core done self.new core }
-        ensures books { self.new.processor.books ≡ self.old.processor.books }
-        ensures grows { spent self.new.processor ≤ spent self.old.processor + 1 }
+        ensures within { Within 1 self.old.processor self.new.processor }
     {
         self.processor.raise(By::Program.fault(Cause::NoDevice, at));
     }
@@ -146,8 +122,7 @@ impl<A: ChannelDevice, B: ChannelDevice, C: ChannelDevice, D: Device> Engine<A, 
     // Sense Interrupt.
     fn sense_interrupt(&mut self)
         ensures goes { (core : List ℕ) → Goes A.Device B.Device C.Device D.Device (the_sense) self.old core done self.new core }
-        ensures books { self.new.processor.books ≡ self.old.processor.books }
-        ensures grows { spent self.new.processor ≡ spent self.old.processor }
+        ensures within { Within 0 self.old.processor self.new.processor }
     {
         let status = self.sensed_status();
         self.processor.works.registers.load(status);
@@ -156,12 +131,9 @@ impl<A: ChannelDevice, B: ChannelDevice, C: ChannelDevice, D: Device> Engine<A, 
 
     // Write to area 0: the masks, once the cycle is told.
     fn write_masks(&mut self, core: &mut [u32], address: u16, high: bool)
-        requires fits { Fits self.old.processor core.old }
-        requires small { spent self.old.processor < 2 ^ 30 }
+        requires room { Room (2 ^ 30) self.old.processor core.old }
         ensures goes { Goes A.Device B.Device C.Device D.Device (write_masks high address) self.old core.old done self.new core.new }
-        ensures long { length core.new ≡ length core.old }
-        ensures books { self.new.processor.books ≡ self.old.processor.books }
-        ensures grows { spent self.new.processor ≤ spent self.old.processor + 8 }
+        ensures within { Within 8 self.old.processor self.new.processor }
     {
         let word = self.read(core, address);
         if high {
@@ -173,12 +145,9 @@ impl<A: ChannelDevice, B: ChannelDevice, C: ChannelDevice, D: Device> Engine<A, 
 
     // Read from area 0: the sense switches, in the high byte.
     fn read_switches(&mut self, core: &mut [u32], address: u16)
-        requires fits { Fits self.old.processor core.old }
-        requires small { spent self.old.processor < 2 ^ 30 }
+        requires room { Room (2 ^ 30) self.old.processor core.old }
         ensures goes { Goes A.Device B.Device C.Device D.Device (read_switches address) self.old core.old done self.new core.new }
-        ensures long { length core.new ≡ length core.old }
-        ensures books { self.new.processor.books ≡ self.old.processor.books }
-        ensures grows { spent self.new.processor ≤ spent self.old.processor + 8 }
+        ensures within { Within 8 self.old.processor self.new.processor }
     {
         let word = sense_word(self.processor.books.switches);
         self.store(core, address, word);
@@ -192,29 +161,27 @@ impl<A: ChannelDevice, B: ChannelDevice, C: ChannelDevice, D: Device> Engine<A, 
         control: ControlWord,
         address: u16,
     )
-        requires fits { Fits self.old.processor core.old }
-        requires small { spent self.old.processor < 2 ^ 30 }
+        requires room { Room (2 ^ 30) self.old.processor core.old }
         ensures goes { Goes A.Device B.Device C.Device D.Device (the_move position control address) self.old core.old done self.new core.new }
-        ensures long { length core.new ≡ length core.old }
-        ensures books { self.new.processor.books ≡ self.old.processor.books }
-        ensures grows { spent self.new.processor ≤ spent self.old.processor + 8 }
+        ensures within { Within 8 self.old.processor self.new.processor }
     {
-        if control.function == 1 {
-            let word = self.read(core, address);
-            self.put(position, control.area, word);
-            return;
-        }
-        if control.function == 2 {
-            let word = self.get(position, control.area);
-            self.deposit(core, address, word);
+        match control.function {
+            WRITE => {
+                let word = self.read(core, address);
+                self.put(position, control.area, word);
+            }
+            READ => {
+                let word = self.get(position, control.area);
+                self.store(core, address, word);
+            }
+            _ => {}
         }
     }
 
     // Sense Device in area 0: the sense switches to A.
     fn sense_switches(&mut self)
         ensures goes { (core : List ℕ) → Goes A.Device B.Device C.Device D.Device (the_switches) self.old core done self.new core }
-        ensures books { self.new.processor.books ≡ self.old.processor.books }
-        ensures grows { spent self.new.processor ≡ spent self.old.processor }
+        ensures within { Within 0 self.old.processor self.new.processor }
     {
         let word = sense_word(self.processor.books.switches);
         self.processor.works.registers.load(word);
@@ -223,74 +190,46 @@ impl<A: ChannelDevice, B: ChannelDevice, C: ChannelDevice, D: Device> Engine<A, 
     // Control in area 0: drops a level's points.
     fn drop_points(&mut self, level: u32)
         ensures goes { (core : List ℕ) → Goes A.Device B.Device C.Device D.Device (the_drop level done) self.old core done self.new core }
-        ensures books { self.new.processor.books ≡ self.old.processor.books }
-        ensures grows { spent self.new.processor ≡ spent self.old.processor }
+        ensures within { Within 0 self.old.processor self.new.processor }
     {
         self.processor.points.drop_level(level as usize);
     }
 
     // What the controller itself does for XIO.
-    fn area_zero(&mut self, core: &mut [u32], at: u16, address: u16, control: ControlWord)
-        requires fits { Fits self.old.processor core.old }
-        requires small { spent self.old.processor < 2 ^ 30 }
-        ensures goes { Goes A.Device B.Device C.Device D.Device (the_zero at address control) self.old core.old done self.new core.new }
-        ensures long { length core.new ≡ length core.old }
-        ensures books { self.new.processor.books ≡ self.old.processor.books }
-        ensures grows { spent self.new.processor ≤ spent self.old.processor + 8 }
+    fn area_zero(&mut self, core: &mut [u32], pair: IoPair)
+        requires room { Room (2 ^ 30) self.old.processor core.old }
+        ensures goes { Goes A.Device B.Device C.Device D.Device (the_zero pair.at pair.address pair.control) self.old core.old done self.new core.new }
+        ensures within { Within 8 self.old.processor self.new.processor }
     {
-        if asks_for(control, 1, 0) {
-            self.write_masks(core, address, false);
-            return;
+        match (pair.control.function, pair.control.modifier) {
+            (WRITE, 0) => self.write_masks(core, pair.address, false),
+            (WRITE, 1) => self.write_masks(core, pair.address, true),
+            (READ, 2) => self.read_switches(core, pair.address),
+            (SENSE_DEVICE, 2) => self.sense_switches(),
+            (CONTROL, level) if level < 24 => self.drop_points(level),
+            _ => self.nobody(pair.at),
         }
-        if asks_for(control, 1, 1) {
-            self.write_masks(core, address, true);
-            return;
-        }
-        if asks_for(control, 2, 2) {
-            self.read_switches(core, address);
-            return;
-        }
-        if asks_for(control, 7, 2) {
-            self.sense_switches();
-            return;
-        }
-        if drops(control) {
-            self.drop_points(control.modifier);
-            return;
-        }
-        self.nobody(at);
     }
 
     // After an accepted command: the device's channel, and the word.
-    fn accepted(
-        &mut self,
-        core: &mut [u32],
-        at: u16,
-        address: u16,
-        control: ControlWord,
-        position: Position,
-    )
-        requires fits { Fits self.old.processor core.old }
-        requires small { spent self.old.processor < 2 ^ 30 }
-        ensures goes { Goes A.Device B.Device C.Device D.Device (the_commanded (makes A.Device B.Device C.Device D.Device) (length core.old) at address control position (Ok tt)) self.old core.old done self.new core.new }
-        ensures long { length core.new ≡ length core.old }
-        ensures books { self.new.processor.books ≡ self.old.processor.books }
-        ensures grows { spent self.new.processor ≤ spent self.old.processor + 8 }
+    fn accepted(&mut self, core: &mut [u32], pair: IoPair, position: Position)
+        requires room { Room (2 ^ 30) self.old.processor core.old }
+        ensures goes { Goes A.Device B.Device C.Device D.Device (the_commanded (makes A.Device B.Device C.Device D.Device) (length core.old) pair.at pair.address pair.control position (Ok tt)) self.old core.old done self.new core.new }
+        ensures within { Within 8 self.old.processor self.new.processor }
     {
-        let head = place(self.processor.books.size, address);
+        let head = place(self.processor.books.size, pair.address);
         let operating = self.operating(position);
-        let initialize = initializes(control.function);
+        let initialize = initializes(pair.control.function);
         self.processor
             .works
-            .settle(channel_for(position), initialize, operating, head);
-        self.move_word(core, position, control, address);
+            .settle(position.channel(), initialize, operating, head);
+        self.move_word(core, position, pair.control, pair.address);
     }
 
     // Sense Device: a device's status to A.
     fn sense_device(&mut self, position: Position, control: ControlWord)
         ensures goes { (core : List ℕ) → Goes A.Device B.Device C.Device D.Device (inquire position control.area control.modifier (λ v. act (to_a v) done)) self.old core done self.new core }
-        ensures books { self.new.processor.books ≡ self.old.processor.books }
-        ensures grows { spent self.new.processor ≡ spent self.old.processor }
+        ensures within { Within 0 self.old.processor self.new.processor }
     {
         let status = self.sense(position, control.area, control.modifier);
         self.processor.works.registers.load(status);
@@ -300,8 +239,7 @@ impl<A: ChannelDevice, B: ChannelDevice, C: ChannelDevice, D: Device> Engine<A, 
     fn not_taken(&mut self, position: Position, at: u16)
         requires small { spent self.old.processor < 2 ^ 30 }
         ensures goes { (core : List ℕ) → Goes A.Device B.Device C.Device D.Device (the_refused (makes A.Device B.Device C.Device D.Device) position NotTaken at) self.old core done self.new core }
-        ensures books { self.new.processor.books ≡ self.old.processor.books }
-        ensures grows { spent self.new.processor ≤ spent self.old.processor + 1 }
+        ensures within { Within 1 self.old.processor self.new.processor }
     {
         let by = By::Device {
             position,
@@ -312,92 +250,57 @@ impl<A: ChannelDevice, B: ChannelDevice, C: ChannelDevice, D: Device> Engine<A, 
     }
 
     // Commands a device, and goes on if it accepts.
-    fn order(
-        &mut self,
-        core: &mut [u32],
-        at: u16,
-        address: u16,
-        control: ControlWord,
-        position: Position,
-    )
-        requires fits { Fits self.old.processor core.old }
-        requires small { spent self.old.processor < 2 ^ 30 }
-        ensures goes { Goes A.Device B.Device C.Device D.Device (the_order position control.area control.function control.modifier (the_commanded (makes A.Device B.Device C.Device D.Device) (length core.old) at address control position)) self.old core.old done self.new core.new }
-        ensures long { length core.new ≡ length core.old }
-        ensures books { self.new.processor.books ≡ self.old.processor.books }
-        ensures grows { spent self.new.processor ≤ spent self.old.processor + 8 }
+    fn order(&mut self, core: &mut [u32], pair: IoPair, position: Position)
+        requires room { Room (2 ^ 30) self.old.processor core.old }
+        ensures goes { Goes A.Device B.Device C.Device D.Device (the_order position pair.control.area pair.control.function pair.control.modifier (the_commanded (makes A.Device B.Device C.Device D.Device) (length core.old) pair.at pair.address pair.control position)) self.old core.old done self.new core.new }
+        ensures within { Within 8 self.old.processor self.new.processor }
     {
-        match self.command(
-            position,
-            control.area,
-            control.function,
-            control.modifier,
-            at,
-        ) {
+        match self.command(position, pair.control, pair.at) {
             Err(fault) => self.processor.raise(fault),
-            Ok(()) => self.accepted(core, at, address, control, position),
+            Ok(()) => self.accepted(core, pair, position),
         }
     }
 
     // XIO with the device that answers to its area.
-    fn with_device(
-        &mut self,
-        core: &mut [u32],
-        at: u16,
-        address: u16,
-        control: ControlWord,
-        position: Position,
-    )
-        requires fits { Fits self.old.processor core.old }
-        requires small { spent self.old.processor < 2 ^ 30 }
-        ensures goes { Goes A.Device B.Device C.Device D.Device (the_device (makes A.Device B.Device C.Device D.Device) (length core.old) at address control (Some position)) self.old core.old done self.new core.new }
-        ensures long { length core.new ≡ length core.old }
-        ensures books { self.new.processor.books ≡ self.old.processor.books }
-        ensures grows { spent self.new.processor ≤ spent self.old.processor + 8 }
+    fn with_device(&mut self, core: &mut [u32], pair: IoPair, position: Position)
+        requires room { Room (2 ^ 30) self.old.processor core.old }
+        ensures goes { Goes A.Device B.Device C.Device D.Device (the_device (makes A.Device B.Device C.Device D.Device) (length core.old) pair.at pair.address pair.control (Some position)) self.old core.old done self.new core.new }
+        ensures within { Within 8 self.old.processor self.new.processor }
     {
-        if control.function == 7 {
-            self.sense_device(position, control);
-            return;
+        match pair.control.function {
+            SENSE_DEVICE => self.sense_device(position, pair.control),
+            function if position.lacks_channel(function) => self.not_taken(position, pair.at),
+            _ => self.order(core, pair, position),
         }
-        if unserved(position, control.function) {
-            self.not_taken(position, at);
-            return;
-        }
-        self.order(core, at, address, control, position);
     }
 
     // XIO by its area.
-    fn by_area(&mut self, core: &mut [u32], at: u16, address: u16, control: ControlWord)
-        requires fits { Fits self.old.processor core.old }
-        requires small { spent self.old.processor < 2 ^ 30 }
-        ensures goes { Goes A.Device B.Device C.Device D.Device (the_area (makes A.Device B.Device C.Device D.Device) (length core.old) at address control) self.old core.old done self.new core.new }
-        ensures long { length core.new ≡ length core.old }
-        ensures books { self.new.processor.books ≡ self.old.processor.books }
-        ensures grows { spent self.new.processor ≤ spent self.old.processor + 8 }
+    fn by_area(&mut self, core: &mut [u32], pair: IoPair)
+        requires room { Room (2 ^ 30) self.old.processor core.old }
+        ensures goes { Goes A.Device B.Device C.Device D.Device (the_area (makes A.Device B.Device C.Device D.Device) (length core.old) pair.at pair.address pair.control) self.old core.old done self.new core.new }
+        ensures within { Within 8 self.old.processor self.new.processor }
     {
-        if control.function == 3 {
-            self.sense_interrupt();
-            return;
-        }
-        if control.area == 0 {
-            self.area_zero(core, at, address, control);
-            return;
-        }
-        match self.answering(control.area) {
-            None => self.nobody(at),
-            Some(position) => self.with_device(core, at, address, control, position),
+        match (pair.control.function, pair.control.area) {
+            (SENSE_INTERRUPT, _) => self.sense_interrupt(),
+            (_, 0) => self.area_zero(core, pair),
+            (_, area) => match self.answering(area) {
+                None => self.nobody(pair.at),
+                Some(position) => self.with_device(core, pair, position),
+            },
         }
     }
 
     // XIO, once its pair is read.
     pub(crate) fn xio(&mut self, core: &mut [u32], at: u16, address: u16, control: u16)
-        requires fits { Fits self.old.processor core.old }
-        requires small { spent self.old.processor < 2 ^ 30 }
+        requires room { Room (2 ^ 30) self.old.processor core.old }
         ensures goes { Goes A.Device B.Device C.Device D.Device (the_xio (makes A.Device B.Device C.Device D.Device) (length core.old) at address control) self.old core.old done self.new core.new }
-        ensures long { length core.new ≡ length core.old }
-        ensures books { self.new.processor.books ≡ self.old.processor.books }
-        ensures grows { spent self.new.processor ≤ spent self.old.processor + 8 }
+        ensures within { Within 8 self.old.processor self.new.processor }
     {
-        self.by_area(core, at, address, control_of(control));
+        let pair = IoPair {
+            at,
+            address,
+            control: ControlWord::from(control),
+        };
+        self.by_area(core, pair);
     }
 }

@@ -2,42 +2,28 @@
 #![tactic(auto)]
 
 use std::io::Read;
-use storage::survey::{Survey, survey_image};
+use storage::survey::survey_image;
 
-fn print_survey(rt: &HostRuntime, survey: &Survey) -> anyhow::Result<()> {
-    let words = survey.words;
-    let protected = survey.protected;
-    println!(rt; "words {words}")?;
-    println!(rt; "protected {protected}")?;
-    match survey.first_wrong {
-        Some(address) => println!(rt; "first wrong parity {address:04X}")?,
-        None => println!(rt; "first wrong parity none")?,
-    }
-    Ok(())
-}
-
-fn run(rt: &HostRuntime) -> anyhow::Result<()> {
+fn main(rt: HostRuntime) -> anyhow::Result<()> {
     let heap = rt.alloc();
     let mut image = Vec::new(heap);
     rt.stdin().read_to_end(&mut image)?;
     let mut core = vec![in heap; 0u32; image.len() / 3]?;
     let mut again = vec![in heap; 0u8; image.len()]?;
     match survey_image(&image, &mut core, &mut again) {
-        Ok(survey) => print_survey(rt, &survey)?,
+        Ok(survey) => println!(rt; "{survey}")?,
+        // A refusal is an answer of this program too, and no failure of it: `?` would print it elsewhere, and end with status 1.
         Err(refusal) => {
             println!(rt; "{refusal}")?;
             return Ok(());
         }
     }
     // The contract of `survey_image` says so already; here it is seen.
-    if again == image {
-        println!(rt; "encoded again: the same file")?;
+    let file = if again == image {
+        "the same file"
     } else {
-        println!(rt; "encoded again: another file")?;
-    }
+        "another file"
+    };
+    println!(rt; "encoded again: {file}")?;
     Ok(())
-}
-
-fn main(rt: HostRuntime) -> anyhow::Result<()> {
-    run(&rt)
 }

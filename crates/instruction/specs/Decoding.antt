@@ -2,13 +2,14 @@
 --
 --     0-4 operation code    5 F, the long form    6-7 T, the tag    8-15 displacement
 --     8 indirect (long form)    9 branch out    10-15 conditions, or a shift count
-use Rattle.std.specs.Prelude.{ℕ, ◌+◌, ◌-◌, ◌/◌, ◌%◌, ◌^◌, Bool, true, false, cond, Some, None, Option, ◌==◌, nat_lt}
+use Rattle.std.specs.Prelude.{ℕ, ◌+◌, ◌-◌, ◌/◌, ◌%◌, ◌^◌, Bool, true, false, if◌then◌else◌, Some, None, Option, Result, ok_or, ◌==◌, nat_lt}
 use Rattle.instruction.specs.declared.words.Operation.{Operation}
 use Rattle.instruction.specs.declared.words.Operation.TheVariants.{ExecuteIo, ShiftLeft, ShiftRight, LoadStatus, StoreStatus, Wait, BranchStore, BranchSkip, LoadIndex, StoreIndex, ModifyIndex, Add, AddDouble, Subtract, SubtractDouble, Multiply, Divide, Compare, CompareDouble, Load, LoadDouble, Store, StoreDouble, And, Or, ExclusiveOr}
 use Rattle.instruction.specs.declared.words.Index.{Index}
 use Rattle.instruction.specs.declared.words.Index.TheVariants.{One, Two, Three}
 use Rattle.instruction.specs.declared.words.Conditions.{Conditions}
 use Rattle.instruction.specs.declared.words.Fields.{Fields}
+use Rattle.instruction.specs.declared.decoding.NotAnOperation.{NotAnOperation}
 
 -- one bit, and the number that the bits from the first to the last make
 abbrev pub bit : ℕ → ℕ → Bool
@@ -25,43 +26,48 @@ short_only false o = Some o
 -- the operation of a code and F; none is an operation check
 abbrev pub by_code : ℕ → Bool → Option Operation
 by_code n long =
-    cond (n == 1) (Some ExecuteIo)
-    (cond (n == 2) (short_only long ShiftLeft)
-    (cond (n == 3) (short_only long ShiftRight)
-    (cond (n == 4) (short_only long LoadStatus)
-    (cond (n == 5) (Some StoreStatus)
-    (cond (n == 6) (short_only long Wait)
-    (cond (n == 8) (Some BranchStore)
-    (cond (n == 9) (Some BranchSkip)
-    (cond (n == 12) (Some LoadIndex)
-    (cond (n == 13) (Some StoreIndex)
-    (cond (n == 14) (Some ModifyIndex)
-    (cond (n == 16) (Some Add)
-    (cond (n == 17) (Some AddDouble)
-    (cond (n == 18) (Some Subtract)
-    (cond (n == 19) (Some SubtractDouble)
-    (cond (n == 20) (Some Multiply)
-    (cond (n == 21) (Some Divide)
-    (cond (n == 22) (Some Compare)
-    (cond (n == 23) (Some CompareDouble)
-    (cond (n == 24) (Some Load)
-    (cond (n == 25) (Some LoadDouble)
-    (cond (n == 26) (Some Store)
-    (cond (n == 27) (Some StoreDouble)
-    (cond (n == 28) (Some And)
-    (cond (n == 29) (Some Or)
-    (cond (n == 30) (Some ExclusiveOr) None)))))))))))))))))))))))))
+    if n == 1 then Some ExecuteIo
+    else if n == 2 then short_only long ShiftLeft
+    else if n == 3 then short_only long ShiftRight
+    else if n == 4 then short_only long LoadStatus
+    else if n == 5 then Some StoreStatus
+    else if n == 6 then short_only long Wait
+    else if n == 8 then Some BranchStore
+    else if n == 9 then Some BranchSkip
+    else if n == 12 then Some LoadIndex
+    else if n == 13 then Some StoreIndex
+    else if n == 14 then Some ModifyIndex
+    else if n == 16 then Some Add
+    else if n == 17 then Some AddDouble
+    else if n == 18 then Some Subtract
+    else if n == 19 then Some SubtractDouble
+    else if n == 20 then Some Multiply
+    else if n == 21 then Some Divide
+    else if n == 22 then Some Compare
+    else if n == 23 then Some CompareDouble
+    else if n == 24 then Some Load
+    else if n == 25 then Some LoadDouble
+    else if n == 26 then Some Store
+    else if n == 27 then Some StoreDouble
+    else if n == 28 then Some And
+    else if n == 29 then Some Or
+    else if n == 30 then Some ExclusiveOr
+    else None
 
 abbrev pub decoded : ℕ → Option Operation
 decoded w = by_code (bits w 0 4) (bit w 5)
 
+-- the same as an answer: a word that is no operation is the one error
+abbrev pub as_operation : ℕ → Result Operation NotAnOperation
+as_operation w = ok_or (decoded w) (record {})
+
 -- the index register that a tag names, if it names one
 abbrev pub index_of : ℕ → Option Index
-index_of t = cond (t == 1) (Some One) (cond (t == 2) (Some Two) (cond (t == 3) (Some Three) None))
+index_of t = if t == 1 then Some One else if t == 2 then Some Two else if t == 3 then Some Three else None
 
 -- eight bits as sixteen, with the sign in bit 8 carried to the left
 abbrev pub extended : ℕ → ℕ
-extended d = cond (nat_lt d 128) d (d + 65280)
+extended d = if nat_lt d 128 then d else d + 65280
 
 abbrev pub conditions_of : ℕ → Conditions
 conditions_of w = record {

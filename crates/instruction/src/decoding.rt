@@ -1,26 +1,41 @@
 // Decoding. Bits are numbered from the left, from 0.
-ghost use Rattle.std.specs.Prelude.{◌≡◌, ◌%◌};
-ghost use Rattle.instruction.specs.Decoding.{by_code as the_operation, short_only, decoded, index_of as the_index, extended as the_extended, conditions_of as the_conditions, fields_of as the_fields};
+ghost use Rattle.std.specs.Prelude.{◌≡◌, ◌%◌, ◌<◌};
+ghost use Rattle.instruction.specs.Decoding.{bit as the_bit, by_code as the_operation, as_operation, index_of as the_index, extended as the_extended, conditions_of, fields_of};
 
 use crate::words::{Conditions, Fields, Index, Operation};
+use std::error::Error;
+use std::fmt;
 
-// An operation that has no long form.
-fn short_only(long: bool, operation: Operation) -> Option<Operation>
-    ensures { result ≡ short_only long operation }
+// A first word that is no operation.
+#[derive(Clone, Copy, Debug, PartialEq, Eq)]
+pub struct NotAnOperation;
+
+impl fmt::Display for NotAnOperation {
+    fn fmt<W: fmt::Write>(&self, f: &mut fmt::Formatter<W>) -> fmt::Result {
+        f.write_str("no operation")
+    }
+}
+
+impl Error for NotAnOperation {}
+
+fn bit(word: u16, number: u32) -> bool
+    requires { number < 16 }
+    ensures { result ≡ the_bit word number }
 {
-    if long { None } else { Some(operation) }
+    word >> (15 - number) & 1 == 1
 }
 
 fn by_code(code: u16, long: bool) -> Option<Operation>
     ensures { result ≡ the_operation code long }
 {
+    let short = !long;
     match code {
         1 => Some(Operation::ExecuteIo),
-        2 => short_only(long, Operation::ShiftLeft),
-        3 => short_only(long, Operation::ShiftRight),
-        4 => short_only(long, Operation::LoadStatus),
+        2 => short.then_some(Operation::ShiftLeft),
+        3 => short.then_some(Operation::ShiftRight),
+        4 => short.then_some(Operation::LoadStatus),
         5 => Some(Operation::StoreStatus),
-        6 => short_only(long, Operation::Wait),
+        6 => short.then_some(Operation::Wait),
         8 => Some(Operation::BranchStore),
         9 => Some(Operation::BranchSkip),
         12 => Some(Operation::LoadIndex),
@@ -45,13 +60,18 @@ fn by_code(code: u16, long: bool) -> Option<Operation>
     }
 }
 
-// The operation of an instruction's first word; none where it is an operation check.
-pub fn decode(word: u16) -> Option<Operation>
-    ensures { result ≡ decoded word }
-{
-    by_code(word / 2_048 % 32, word / 1_024 % 2 == 1)
+// The operation of an instruction's first word; a word that is none is an operation check.
+impl TryFrom<u16> for Operation {
+    type Error = NotAnOperation;
+
+    ghost try_from_gives = { λ word r. r ≡ as_operation word };
+
+    fn try_from(word: u16) -> Result<Operation, NotAnOperation> {
+        by_code(word / 2_048 % 32, bit(word, 5)).ok_or(NotAnOperation)
+    }
 }
 
+// A tag that names no index register is no error, so this is an Option.
 fn index_of(tag: u16) -> Option<Index>
     ensures { result ≡ the_index tag }
 {
@@ -66,34 +86,38 @@ fn index_of(tag: u16) -> Option<Index>
 fn extended(displacement: u16) -> u16
     ensures { result ≡ the_extended (displacement % 256) }
 {
-    let low = displacement % 256;
-    if low < 128 { low } else { low + 65_280 }
+    let [_, low] = displacement.to_be_bytes();
+    i16::from(low.cast_signed()).cast_unsigned()
 }
 
-fn conditions_of(word: u16) -> Conditions
-    ensures { result ≡ the_conditions word }
-{
-    Conditions {
-        zero: word / 32 % 2 == 1,
-        minus: word / 16 % 2 == 1,
-        plus: word / 8 % 2 == 1,
-        even: word / 4 % 2 == 1,
-        carry_off: word / 2 % 2 == 1,
-        overflow_off: word % 2 == 1,
+impl From<u16> for Conditions {
+    ghost from_gives = { λ word r. r ≡ conditions_of word };
+
+    fn from(word: u16) -> Conditions {
+        Conditions {
+            zero: bit(word, 10),
+            minus: bit(word, 11),
+            plus: bit(word, 12),
+            even: bit(word, 13),
+            carry_off: bit(word, 14),
+            overflow_off: bit(word, 15),
+        }
     }
 }
 
 // The fields of an instruction's first word.
-pub fn fields(word: u16) -> Fields
-    ensures { result ≡ the_fields word }
-{
-    Fields {
-        long: word / 1_024 % 2 == 1,
-        tag: index_of(word / 256 % 4),
-        displacement: extended(word),
-        indirect: word / 128 % 2 == 1,
-        branch_out: word / 64 % 2 == 1,
-        conditions: conditions_of(word),
-        count: u32::from(word % 64),
+impl From<u16> for Fields {
+    ghost from_gives = { λ word r. r ≡ fields_of word };
+
+    fn from(word: u16) -> Fields {
+        Fields {
+            long: bit(word, 5),
+            tag: index_of(word / 256 % 4),
+            displacement: extended(word),
+            indirect: bit(word, 8),
+            branch_out: bit(word, 9),
+            conditions: Conditions::from(word),
+            count: u32::from(word % 64),
+        }
     }
 }

@@ -1,5 +1,5 @@
 // What an instruction's first word is made of.
-#[derive(Clone, Copy)]
+#[derive(Clone, Copy, Debug, PartialEq, Eq)]
 pub enum Operation {
     // XIO
     ExecuteIo,
@@ -56,7 +56,7 @@ pub enum Operation {
 }
 
 // An index register, as a tag names it.
-#[derive(Clone, Copy)]
+#[derive(Clone, Copy, Debug, PartialEq, Eq)]
 pub enum Index {
     One,
     Two,
@@ -64,7 +64,7 @@ pub enum Index {
 }
 
 // What a branch tests. Each condition is tested where its bit is on.
-#[derive(Clone, Copy)]
+#[derive(Clone, Copy, Debug, Default, PartialEq, Eq)]
 pub struct Conditions {
     pub zero: bool,
     pub minus: bool,
@@ -74,7 +74,7 @@ pub struct Conditions {
     pub overflow_off: bool,
 }
 
-#[derive(Clone, Copy)]
+#[derive(Clone, Copy, Debug, Default, PartialEq, Eq)]
 pub struct Fields {
     // F: the instruction has a second word
     pub long: bool,

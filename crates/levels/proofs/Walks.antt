@@ -1,78 +1,79 @@
 -- Going down a list: the first that passes, and the levels that stand.
-use Rattle.std.proofs.Common.{◌≡◌, ℕ, zero, suc, ◌+◌, ◌<◌, ◌≤◌, Bool, true, false, not, ◌&&◌, eqb, List, [], ◌∷◌, ◌++◌, length, get_or, take, drop, set, Some, None, Option, sym, ap, ◌∙◌, subst, ⊎_elim, append_assoc, append-nil, arith}
-use Rattle.std.proofs.lemmas.Bool.{cases_Bool}
-use Rattle.std.proofs.lemmas.List.{at_drop_more, at_drop_all, take_more_set, take_all}
+use Rattle.std.proofs.Common.{◌≡◌, ℕ, zero, suc, ◌+◌, ◌<◌, ◌≤◌, Bool, true, false, cond, not, ◌&&◌, eqb, ltb, List, [], ◌∷◌, length, get_or, Some, None, Option, refl, ◌∙◌, ⊎_elim, arith}
+use Rattle.std.specs.Array.{IsFromFnResult, IsFromFnResultFrom}
+use Rattle.std.specs.Fn.{Called}
+use Rattle.std.specs.List.{position, position_or_len}
+use Rattle.std.specs.Option.{unwrap_or}
+use Rattle.std.proofs.lemmas.Bool.{cases_lt}
+use Rattle.std.proofs.lemmas.Bool.Decides.{nat_tests}
+use Rattle.std.proofs.lemmas.List.Quantifiers.{position-Some}
+use Rattle.std.proofs.lemmas.List.Sums.{fails_before_first, prefix_len-le-length}
+use denote.Param.Members.{Mut}
 use Rattle.levels.specs.declared.state.Masks.{Masks}
 use Rattle.levels.specs.declared.state.LevelWish.{LevelWish}
-use Rattle.levels.specs.Choice.{first_from, Chosen}
+use Rattle.levels.specs.Choice.{Chosen}
 use Rattle.levels.specs.Standing.{is_masked, standing}
 
--- the one at i passes, or does not, or there is none
-module _ {R : Type 0} (p : R → Bool) (xs : List R) (i : ℕ) where
-  pub found : (d : R) → i < length xs → p (get_or xs i d) ≡ true → first_from p i (drop i xs) ≡ Some i
-  found d h q = at_drop_more (first_from p i) xs i d h ∙ rw q
+-- where none is found, none passes
+pub none_passes : {R : Type 0} (p : R → Bool) (xs : List R) (k : ℕ) (d : R) → position p xs ≡ None → k < length xs → p (get_or xs k d) ≡ false
+none_passes p xs k d e h = fails_before_first p xs k d (grind (arith, nat_tests))
 
-  pub passed : (d : R) → i < length xs → p (get_or xs i d) ≡ false → first_from p i (drop i xs) ≡ first_from p (i + 1) (drop (i + 1) xs)
-  passed d h q = at_drop_more (first_from p i) xs i d h ∙ rw q
-
-  pub none : length xs ≤ i → first_from p i (drop i xs) ≡ None
-  none h = at_drop_all (first_from p i) xs i h
-
--- one level more, and the end
-module _ (m : Masks) (serving : List Bool) (words : List ℕ) (i : ℕ) where
-  pub level_more : (free still : Bool) (wishes all : List LevelWish) (v : LevelWish) → i < length serving → i < length words → i < length wishes
-      → still ≡ (free && not (get_or serving i false))
-      → v ≡ record { level = i; wish = still && (not (is_masked m i) && not (eqb (get_or words i 0) 0)) }
-      → take i wishes ++ standing m free i (drop i serving) (drop i words) ≡ all
-      → take (i + 1) (set wishes i v) ++ standing m still (i + 1) (drop (i + 1) serving) (drop (i + 1) words) ≡ all
-  level_more free still wishes all v hs hw hl f e inv =
-      let s = at_drop_more (λ (x : List Bool). standing m free i x (drop i words)) serving i false hs in
-      let t = at_drop_more (λ (x : List ℕ). standing m free i (get_or serving i false ∷ drop (i + 1) serving) x) words i 0 hw in
-      rw (take_more_set wishes i v hl, append_assoc, e, f) (ap (λ (x : List LevelWish). take i wishes ++ x) (sym (s ∙ t)) ∙ inv)
-
-  pub level_end : (free : Bool) (wishes all : List LevelWish) → length serving ≤ i → length wishes ≤ i
-      → take i wishes ++ standing m free i (drop i serving) (drop i words) ≡ all → wishes ≡ all
-  level_end free wishes all hs hl inv =
-      let s = at_drop_all (λ (x : List Bool). standing m free i x (drop i words)) serving i hs in
-      sym (take_all i wishes hl) ∙ sym (append-nil (take i wishes)) ∙ ap (λ (x : List LevelWish). take i wishes ++ x) (sym s) ∙ inv
-
--- the first that passes does, and none before it; or none does
-module _ {R : Type 0} (p : R → Bool) (d : R) where
-  pub first_some : (xs : List R) (n i : ℕ) → first_from p n xs ≡ Some i → (j : ℕ) × ((n + j ≡ i) × (j < length xs) × (p (get_or xs j d) ≡ true) × ((k : ℕ) → k < j → p (get_or xs k d) ≡ false))
-  first_some [] n i e = let z : ◌≡◌ {A = ℕ} 0 1 = cc in absurd (omega arith)
-  first_some (x ∷ xs) n i e = ⊎_elim
-      (λ t. let f : n ≡ i = (let g = rw t at e in cc) in (0, (omega arith, omega arith, t, λ k h. absurd (omega arith))))
-      (λ t.
-      let g : first_from p (n + 1) xs ≡ Some i = rw t at e in
-      let r = first_some xs (n + 1) i g in
-      let eq = r.1.0 in
-      let lt = r.1.1 in
-      (suc r.0, (omega arith, omega arith, r.1.2, later t r.0 r.1.3)))
-      (cases_Bool (p x))
-    where
-      later : p x ≡ false → (j : ℕ) → ((k : ℕ) → k < j → p (get_or xs k d) ≡ false) → (k : ℕ) → k < suc j → p (get_or (x ∷ xs) k d) ≡ false
-      later t j h zero l = t
-      later t j h (suc k) l = h k (omega arith)
-
-  pub first_none : (xs : List R) (n : ℕ) → first_from p n xs ≡ None → (k : ℕ) → k < length xs → p (get_or xs k d) ≡ false
-  first_none [] n e k l = absurd (omega arith)
-  first_none (x ∷ xs) n e k l = ⊎_elim
-      (λ t. let g = rw t at e in let z : ◌≡◌ {A = ℕ} 0 1 = cc in absurd (omega arith))
-      (λ t. let g : first_from p (n + 1) xs ≡ None = rw t at e in here t (λ j. first_none xs (n + 1) g j) k l)
-      (cases_Bool (p x))
-    where
-      here : p x ≡ false → ((j : ℕ) → j < length xs → p (get_or xs j d) ≡ false) → (k : ℕ) → k < suc (length xs) → p (get_or (x ∷ xs) k d) ≡ false
-      here t h zero l = t
-      here t h (suc k) l = h k (omega arith)
-
-first_bound : {R : Type 0} (p : R → Bool) (xs : List R) (n i : ℕ) → first_from p n xs ≡ Some i → i < n + length xs
-first_bound p [] n i e = let z : ◌≡◌ {A = ℕ} 0 1 = cc in absurd (omega arith)
-first_bound p (x ∷ xs) n i e = let r = first_some p x (x ∷ xs) n i e in omega (arith, r.1.0, r.1.1)
-
-pub chosen : {R : Type 0} (p : R → Bool) (xs : List R) (r : Option ℕ) → first_from p 0 xs ≡ r → Chosen p xs r
-chosen p xs None e = λ k d h. first_none p d xs 0 e k h
+pub chosen : {R : Type 0} (p : R → Bool) (xs : List R) (r : Option ℕ) → position p xs ≡ r → Chosen p xs r
+chosen p xs None e = λ k d h. none_passes p xs k d e h
 chosen p xs (Some i) e = (
-  omega (arith, first_bound p xs 0 i e),
-  (λ d. let r = first_some p d xs 0 i e in let q : r.0 ≡ i = omega (arith, r.1.0) in subst (λ (x : ℕ). p (get_or xs x d) ≡ true) q r.1.2),
-  (λ k d h. let r = first_some p d xs 0 i e in r.1.3 k (omega (arith, r.1.0))),
+  grind (arith, nat_tests),
+  (λ d. (position-Some p xs i d e).1),
+  (λ k d h. (position-Some p xs i d e).2 k h),
 )
+
+-- the place of the first, or else the length
+pub first_or_length : {R : Type 0} (p : R → Bool) (xs : List R) (n : ℕ) → length xs ≡ n → unwrap_or (position p xs) n ≡ position_or_len p xs
+first_or_length p xs n e = rw (← e) (cut (position_or_len p xs) (length xs) (prefix_len-le-length _ xs))
+  where
+    cut : (a n : ℕ) → a ≤ n → unwrap_or (cond (ltb a n) (Some a) None) n ≡ a
+    cut a n h = grind (arith, nat_tests)
+
+-- what `array::from_fn` puts at an index, where each call of its closure f gives h of the index and leaves f as it is
+module _ {F B : Type 0} (g : Mut F (ℕ × Unit {0}) B) (h : ℕ → B) (f : F) (pure : (i : ℕ) (y : B) (q : F) → Called g f (i, tt) y q → (q ≡ f) × (y ≡ h i)) where
+  from : (ys : List B) (n i : ℕ) → IsFromFnResultFrom g f ys i n → (k : ℕ) (d : B) → i ≤ k → k < i + n → get_or ys k d ≡ h k
+  from ys zero i e k d l u = absurd (omega arith)
+  from ys (suc n) i e k d l u =
+      let p = pure i e.1 e.0 e.3 in
+      ⊎_elim (λ m. from ys n (i + 1) (rw p.0 at e.4) k d (omega arith) (omega arith))
+      (λ m. let same : k ≡ i = omega arith in rw same (e.2.1 d ∙ p.1)) (cases_lt i k)
+
+pub from_fn_at : {F B : Type 0} {g : Mut F (ℕ × Unit {0}) B} {f : F} {ys : List B} {n : ℕ} (h : ℕ → B) → IsFromFnResult g f ys n
+    → ((i : ℕ) (y : B) (q : F) → Called g f (i, tt) y q → (q ≡ f) × (y ≡ h i)) → (k : ℕ) (d : B) → k < n → get_or ys k d ≡ h k
+from_fn_at {g = g} {f = f} {ys = ys} {n = n} h r pure k d l = from g h f pure ys n 0 r.each k d (omega arith) (omega arith)
+
+-- a level is free where it lies above the first in service
+free_here : (s : Bool) (p : ℕ) → not s ≡ ltb 0 (cond (not s) (1 + p) 0)
+free_here true p = grind (arith, nat_tests)
+free_here false p = grind (arith, nat_tests)
+
+free_below : (free s : Bool) (k p : ℕ) → ((free && not s) && ltb k p) ≡ (free && ltb (suc k) (cond (not s) (1 + p) 0))
+free_below false s k p = refl
+free_below true true k p = grind (arith, nat_tests)
+free_below true false k p = grind (arith, nat_tests)
+
+-- what a level wishes, at its place in the list
+module _ (m : Masks) where
+  wish_at : (free : Bool) (n : ℕ) (ss : List Bool) (ws : List ℕ) (k : ℕ) (d : LevelWish) → k < length ss → k < length ws
+      → get_or (standing m free n ss ws) k d
+      ≡ record { level = n + k; wish = (free && ltb k (position_or_len (λ on. on) ss)) && (not (is_masked m (n + k)) && not (eqb (get_or ws k 0) 0)) }
+  wish_at free n [] ws k d h l = absurd (omega arith)
+  wish_at free n (s ∷ ss) [] k d h l = absurd (omega arith)
+  wish_at free n (s ∷ ss) (w ∷ ws) zero d h l = let e : n + 0 ≡ n = omega arith in rw (e, ← free_here s (position_or_len (λ on. on) ss))
+  wish_at free n (s ∷ ss) (w ∷ ws) (suc k) d h l =
+      let e : n + suc k ≡ n + 1 + k = omega arith in
+      rw (e, ← free_below free s k (position_or_len (λ on. on) ss)) (wish_at (free && not s) (n + 1) ss ws k d (omega arith) (omega arith))
+
+  pub standing_at : (free : Bool) (ss : List Bool) (ws : List ℕ) (k : ℕ) (d : LevelWish) → k < length ss → k < length ws
+      → get_or (standing m free 0 ss ws) k d
+      ≡ record { level = k; wish = (free && ltb k (position_or_len (λ on. on) ss)) && (not (is_masked m k) && not (eqb (get_or ws k 0) 0)) }
+  standing_at free ss ws k d h l = let z : 0 + k ≡ k = omega arith in rw z at (wish_at free 0 ss ws k d h l)
+
+  pub how_long : (free : Bool) (n : ℕ) (ss : List Bool) (ws : List ℕ) → length ss ≡ length ws → length (standing m free n ss ws) ≡ length ss
+  how_long free n [] ws e = refl
+  how_long free n (s ∷ ss) [] e = absurd (omega arith)
+  how_long free n (s ∷ ss) (w ∷ ws) e = let r = how_long (free && not s) (n + 1) ss ws (omega arith) in omega arith

@@ -1,26 +1,22 @@
 -- Which interrupt is due, which is in service, and how service and masks change.
-use Rattle.std.specs.Prelude.{ℕ, ◌/◌, Bool, false, cond, not, ◌&&◌, List, Some, None, Option, ◌==◌, nat_lt, slice_set}
+use Rattle.std.specs.Prelude.{ℕ, ◌/◌, Bool, false, cond, not, ◌&&◌, List, Some, None, Option, ◌==◌, nat_lt, option_map, position, slice_set}
 use Rattle.levels.specs.declared.state.Flags.{Flags}
 use Rattle.levels.specs.declared.state.Masks.{Masks}
 use Rattle.levels.specs.declared.state.Service.{Service}
 use Rattle.levels.specs.declared.state.Interrupt.{Interrupt}
 use Rattle.levels.specs.declared.state.Interrupt.TheVariants.{Internal, Level}
-use Rattle.levels.specs.Choice.{first_from, first_behind}
+use Rattle.levels.specs.Choice.{first_behind}
 use Rattle.levels.specs.Standing.{flag_word, standing}
-
-abbrev pub the_level : Option ℕ → Option Interrupt
-the_level None = None
-the_level (Some n) = Some (Level n)
 
 -- Due: the internal level first, if it has a flag and is not in service; it has no mask. Then the first level that stands.
 abbrev pub due : Flags → Masks → List ℕ → Service → Option Interrupt
 due f m words s =
     cond (not s.internal && not (flag_word f == 0)) (Some Internal)
-    (the_level (first_behind (λ w. w.level) (λ w. w.wish) None (standing m (not s.internal) 0 s.levels words)))
+    (option_map Level (first_behind (λ w. w.level) (λ w. w.wish) None (standing m (not s.internal) 0 s.levels words)))
 
 -- the highest in service
 abbrev pub highest : Service → Option Interrupt
-highest s = cond s.internal (Some Internal) (the_level (first_from (λ on. on) 0 s.levels))
+highest s = cond s.internal (Some Internal) (option_map Level (position (λ on. on) s.levels))
 
 abbrev pub with_service : Interrupt → Bool → Service → Service
 with_service Internal on s = record { levels = s.levels; internal = on }

@@ -19,11 +19,7 @@ pub trait Requester {
 fn stands_behind<R: Requester>(requester: &R, behind: Option<usize>) -> bool
     ensures { result ≡ (lies_behind behind (R.Requester.place requester.now) && R.Requester.wish requester.now) }
 {
-    let free = match behind {
-        Some(rank) => requester.rank() > rank,
-        None => true,
-    };
-    free && requester.wishes()
+    behind.is_none_or(|rank| requester.rank() > rank) && requester.wishes()
 }
 
 // The place in the list of the first requester that wishes and whose rank is behind the given one, or none.
@@ -31,14 +27,11 @@ pub fn first_behind<R: Requester>(list: &[R], behind: Option<usize>) -> Option<u
     ensures value { result ≡ first_behind R.Requester.place R.Requester.wish behind list.now }
     ensures chosen { Chosen (λ x. lies_behind behind (R.Requester.place x) && R.Requester.wish x) list.now result }
 {
-    for (at, requester) in list.iter().enumerate() {
-        if stands_behind(requester, behind) {
-            return Some(at);
-        }
-    }
-    None
+    list.iter()
+        .position(|requester| stands_behind(requester, behind))
 }
 
+// A record of its own, beside that of the channels: one function takes a lent slice of either, as the project's rules name it.
 impl Requester for LevelWish {
     ghost place = { λ w. w.level };
 

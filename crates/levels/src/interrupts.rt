@@ -1,11 +1,11 @@
 // Which interrupt is due, and what is in service.
-ghost use Rattle.std.specs.Prelude.{◌≡◌, true, not, ◌&&◌, ◌==◌};
-ghost use Rattle.levels.specs.Choice.{first_from};
+ghost use Rattle.std.specs.Prelude.{◌≡◌, true, not, position};
 ghost use Rattle.levels.specs.Standing.{is_masked, standing};
 ghost use Rattle.levels.specs.Interrupts.{due as the_due, highest as the_highest, with_service, ended, masked_low, masked_high};
 
 use crate::choice::first_behind;
 use crate::state::{Flags, Interrupt, LEVELS, LevelWish, Masks, Service};
+use std::array;
 
 impl Masks {
     // There is no level past the last, and nothing unmasks it.
@@ -32,64 +32,37 @@ impl Masks {
     pub fn write_high(&mut self, word: u16)
         ensures { self.new ≡ masked_high word self.old }
     {
-        self.high = (word / 256) as u8;
-    }
-}
-
-// Whether nothing is in service from the highest level down to this one, where nothing above is.
-fn still_free(free: bool, serving: bool) -> bool
-    ensures { result ≡ (free && not serving) }
-{
-    free && !serving
-}
-
-fn level_wish(masks: &Masks, free: bool, level: usize, word: u16) -> LevelWish
-    ensures { result ≡ record { level = level; wish = free && (not (is_masked masks.now level) && not (word == 0)) } }
-{
-    LevelWish {
-        level,
-        wish: free && !masks.is_masked(level) && word != 0,
+        let [high, _] = word.to_be_bytes();
+        self.high = high;
     }
 }
 
 impl Service {
-    fn standing(&self, masks: &Masks, words: &[u16; 24]) -> [LevelWish; 24]
+    fn highest_level(&self) -> Option<usize>
+        ensures { result ≡ position (λ on. on) self.now.levels }
+    {
+        self.levels.iter().position(|on| *on)
+    }
+
+    // A level stands where it lies above the highest in service, is unmasked, and has a status.
+    fn standing(&self, masks: &Masks, words: &[u16; LEVELS]) -> [LevelWish; LEVELS]
         ensures { result ≡ standing masks.now (not self.now.internal) 0 self.now.levels words.now }
     {
-        let mut wishes = [LevelWish {
-            level: 0,
-            wish: false,
-        }; 24];
-        let mut free = !self.internal;
-        for level in 0..LEVELS {
-            free = still_free(free, self.levels[level]);
-            wishes[level] = level_wish(masks, free, level, words[level]);
-        }
-        wishes
+        let serving = self.highest_level().unwrap_or(LEVELS);
+        array::from_fn(|level| LevelWish {
+            level,
+            wish: !self.internal && level < serving && !masks.is_masked(level) && words[level] != 0,
+        })
     }
 
     // The interrupt that is due by the flags, the masks and the levels' status words, or none.
-    pub fn due(&self, flags: &Flags, masks: &Masks, words: &[u16; 24]) -> Option<Interrupt>
+    pub fn due(&self, flags: &Flags, masks: &Masks, words: &[u16; LEVELS]) -> Option<Interrupt>
         ensures { result ≡ the_due flags.now masks.now words.now self.now }
     {
         if !self.internal && flags.word() != 0 {
             return Some(Interrupt::Internal);
         }
-        match first_behind(&self.standing(masks, words), None) {
-            Some(level) => Some(Interrupt::Level(level)),
-            None => None,
-        }
-    }
-
-    fn highest_level(&self) -> Option<usize>
-        ensures { result ≡ first_from (λ on. on) 0 self.now.levels }
-    {
-        for level in 0..LEVELS {
-            if self.levels[level] {
-                return Some(level);
-            }
-        }
-        None
+        first_behind(&self.standing(masks, words), None).map(Interrupt::Level)
     }
 
     // The highest in service, or none.
@@ -99,10 +72,7 @@ impl Service {
         if self.internal {
             return Some(Interrupt::Internal);
         }
-        match self.highest_level() {
-            Some(level) => Some(Interrupt::Level(level)),
-            None => None,
-        }
+        self.highest_level().map(Interrupt::Level)
     }
 
     fn set(&mut self, interrupt: Interrupt, on: bool)
@@ -111,6 +81,7 @@ impl Service {
         match interrupt {
             Interrupt::Internal => self.internal = on,
             Interrupt::Level(level) => {
+                // By index: what std says of a slice's `get_mut` leaves open what the levels are after the write.
                 if level < LEVELS {
                     self.levels[level] = on;
                 }

@@ -5,7 +5,7 @@ ghost use Rattle.levels.specs.Standing.{flag_word, status as the_status, latched
 use crate::state::{Flags, LEVELS, Points};
 
 impl Flags {
-    // Bit 0 parity, bit 1 operation, bit 2 protect.
+    // The internal level's status word: bit 0 parity, bit 1 operation, bit 2 protect.
     pub fn word(&self) -> u16
         ensures { result ≡ flag_word self.now }
     {
@@ -20,17 +20,14 @@ impl Points {
     pub fn status(&self, level: usize, lines: u16) -> u16
         ensures { result ≡ the_status self.now.words level lines }
     {
-        if level < LEVELS {
-            self.words[level] | lines
-        } else {
-            lines
-        }
+        self.words.get(level).map_or(lines, |word| word | lines)
     }
 
     // Latches a point by level and bit; no change where there is no such level or bit.
     pub fn latch(&mut self, level: usize, bit: u32)
         ensures { self.new.words ≡ latched level bit self.old.words }
     {
+        // By index: what std says of a slice's `get_mut` leaves open what the words are after the write.
         if level < LEVELS && bit < 16 {
             self.words[level] |= 1u16 << (15 - bit);
         }
@@ -40,6 +37,7 @@ impl Points {
     pub fn drop_level(&mut self, level: usize)
         ensures { self.new.words ≡ dropped level self.old.words }
     {
+        // By index, as in `latch`.
         if level < LEVELS {
             self.words[level] = 0;
         }

@@ -2,7 +2,7 @@
 pub const LEVELS: usize = 24;
 
 // The flags of the internal level.
-#[derive(Clone, Copy)]
+#[derive(Clone, Copy, PartialEq, Eq, Debug, Default)]
 pub struct Flags {
     pub parity: bool,
     pub operation: bool,
@@ -10,33 +10,33 @@ pub struct Flags {
 }
 
 // The mask register: a word for levels 0 to 15, a byte for levels 16 to 23. A level is masked where its bit is on.
-#[derive(Clone, Copy)]
+#[derive(Clone, Copy, PartialEq, Eq, Debug)]
 pub struct Masks {
     pub low: u16,
     pub high: u8,
 }
 
 // What is in service.
-#[derive(Clone, Copy)]
+#[derive(Clone, Copy, PartialEq, Eq, Debug)]
 pub struct Service {
-    pub levels: [bool; 24],
+    pub levels: [bool; LEVELS],
     pub internal: bool,
 }
 
 // The points that are latched, a word for each level.
-#[derive(Clone, Copy)]
+#[derive(Clone, Copy, PartialEq, Eq, Debug)]
 pub struct Points {
-    pub words: [u16; 24],
+    pub words: [u16; LEVELS],
 }
 
-#[derive(Clone, Copy)]
+#[derive(Clone, Copy, PartialEq, Eq, Debug)]
 pub enum Interrupt {
     Internal,
     Level(usize),
 }
 
 // A level as a requester.
-#[derive(Clone, Copy)]
+#[derive(Clone, Copy, PartialEq, Eq, Debug)]
 pub struct LevelWish {
     pub level: usize,
     pub wish: bool,

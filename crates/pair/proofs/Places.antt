@@ -6,6 +6,7 @@ use Rattle.device.specs.declared.answer.Asking.{Asking}
 use Rattle.device.specs.declared.answer.Asking.TheVariants.{Nothing, Bring, Take}
 use Rattle.device.specs.Meaning.{Meaning}
 use Rattle.device.specs.Calls.{word_at, removed, get_place, get_control, when_there, bring_place, bring_control, when_brings}
+use Rattle.device.specs.Laws.{Lawful}
 use Rattle.pair.specs.Pairs.{joined, behind, by_area, by_work, calls, pair, pair_channel}
 use Rattle.pair.specs.Shown.{first_joined, second_joined}
 
@@ -111,3 +112,26 @@ module _ (v w : List ℕ) (o q : Option ℕ) where
 
   pub words_second : (n : ℕ) → length v ≡ n → q ≡ behind n o → v ++ removed o w ≡ removed q (v ++ w)
   words_second n l e = sym (ap (λ (x : Option ℕ). removed x (v ++ w)) (e ∙ ap (λ (k : ℕ). behind k o) (sym l)) ∙ behind_removed v w o)
+
+-- The word that get and bring take from the first of two lawful makes, and the words without it. The law that a place is within the
+-- words is what a call of the first needs besides.
+module _ (a b : Meaning) (l : Lawful a) (c d v w : List ℕ) (n : length v ≡ a.left c) where
+  module _ (area : ℕ) (e : a.answers c area ≡ true) where
+    got_within : (p : ℕ) → get_place a c area ≡ Some p → p < length v
+    got_within p h = omega (arith, l.within c area p h)
+
+    pub got_word : word_at (get_place a c area) v ≡ word_at (get_place (pair a b) (joined c d) area) (v ++ w)
+    got_word = word_first v w _ _ (got_first a b c d area e) got_within
+
+    pub got_words : removed (get_place a c area) v ++ w ≡ removed (get_place (pair a b) (joined c d) area) (v ++ w)
+    got_words = words_first v w _ _ (got_first a b c d area e) got_within
+
+  module _ (e : (a.operating c || not (b.operating d)) ≡ true) where
+    brought_within : (p : ℕ) → bring_place a.channel c ≡ Some p → p < length v
+    brought_within p h = omega (arith, l.channel.within c p h)
+
+    pub brought_word : word_at (bring_place a.channel c) v ≡ word_at (bring_place (pair_channel a b) (joined c d)) (v ++ w)
+    brought_word = word_first v w _ _ (place_first a b c d e) brought_within
+
+    pub brought_words : removed (bring_place a.channel c) v ++ w ≡ removed (bring_place (pair_channel a b) (joined c d)) (v ++ w)
+    brought_words = words_first v w _ _ (place_first a b c d e) brought_within

@@ -24,7 +24,7 @@ same_count n None = refl
 same_count n (Some p) = refl
 
 split : (n p : ℕ) (o : Option ℕ) → behind n o ≡ Some p → (q : ℕ) × ((o ≡ Some q) × (n + q ≡ p))
-split n p None e = let z : ◌≡◌ {A = ℕ} 0 1 = cc in absurd (omega arith)
+split n p None e = absurd cc
 split n p (Some q) e = (q, (refl, cc))
 
 module _ (a b : Meaning) where

@@ -1,22 +1,18 @@
 // Two channel devices on one channel, which are one channel device again. So pairs of pairs work.
 #![tactic(auto)]
 
-ghost use Rattle.std.specs.Prelude.{◌≡◌, ◌++◌, Ok};
+ghost use Rattle.std.specs.Prelude.{◌≡◌, ◌++◌, Ok, refl};
 ghost use Rattle.pair.specs.Pairs.{pair, joined};
 ghost use Rattle.pair.specs.Shown.{pair_lawful, pair_numbered};
 
 use device::answer::{Asking, DeviceFault};
+use device::control::ControlWord;
 use device::function::CONTROL;
-use device::interface::{ChannelDevice, Device, Make};
+use device::interface::{ChannelDevice, Device};
+use device::table::TableEnd;
 use refusal::Refusal;
 
 mod routing;
-
-pub struct PairMake;
-
-impl Make for PairMake {
-    const KIND: u32 = 3;
-}
 
 #[derive(Drop)]
 pub struct Pair<A, B> {
@@ -39,6 +35,7 @@ impl<A: ChannelDevice, B: ChannelDevice> Pair<A, B> {
         Pair { first, second }
     }
 
+    // The two accessors are no twins: one answers an A, the other a B.
     pub fn first(&self) -> &A
         ensures { result.now ≡ self.now.first }
     {
@@ -52,8 +49,13 @@ impl<A: ChannelDevice, B: ChannelDevice> Pair<A, B> {
     }
 }
 
+#[tactic(auto, using(crate::specs::Shown::first_joined, crate::specs::Shown::second_joined))]
 impl<A: ChannelDevice, B: ChannelDevice> Device for Pair<A, B> {
-    type Of = PairMake;
+    ghost KIND_NUMBER = { 3 };
+
+    const KIND_NUMBER: u32 = 3;
+
+    ghost kinded = { refl };
 
     ghost control = { λ p. joined (A.Device.control p.first) (B.Device.control p.second) };
 
@@ -65,14 +67,12 @@ impl<A: ChannelDevice, B: ChannelDevice> Device for Pair<A, B> {
 
     ghost numbered = { λ p. pair_numbered A.Device.means B.Device.means (A.Device.control p.first) (B.Device.control p.second) (A.Device.words p.first) (B.Device.words p.second) (A.Device.numbered p.first) (B.Device.numbered p.second) };
 
-    fn kind(&self) -> u32 {
-        Self::Of::KIND
-    }
-
     fn answers_to(&self, area: u32) -> bool {
         self.first.answers_to(area) || self.second.answers_to(area)
     }
 
+    // A call goes to the one of the two that it is for, which an `if` says plainer than a helper: since A and B are two types, it would
+    // be passed the same call as two closures, and be there four times, by area and by work, over & and over &mut.
     fn takes_function(&self, area: u32, function: u32) -> bool {
         if self.area_to_first(area) {
             self.first.takes_function(area, function)
@@ -89,17 +89,17 @@ impl<A: ChannelDevice, B: ChannelDevice> Device for Pair<A, B> {
         self.first.line() || self.second.line()
     }
 
-    fn command(&mut self, area: u32, function: u32, modifier: u32) -> Result<(), DeviceFault> {
-        if !self.takes_function(area, function) {
+    fn command(&mut self, order: ControlWord) -> Result<(), DeviceFault> {
+        if !self.takes_function(order.area, order.function) {
             return Err(DeviceFault::NotTaken);
         }
-        if self.operating() && function != CONTROL {
+        if self.operating() && order.function != CONTROL {
             return Err(DeviceFault::Busy);
         }
-        if self.area_to_first(area) {
-            self.first.command(area, function, modifier)
+        if self.area_to_first(order.area) {
+            self.first.command(order)
         } else {
-            self.second.command(area, function, modifier)
+            self.second.command(order)
         }
     }
 
@@ -119,6 +119,7 @@ impl<A: ChannelDevice, B: ChannelDevice> Device for Pair<A, B> {
         }
     }
 
+    #[tactic(auto, using(crate::proofs::Places::got_second, crate::proofs::Places::get_first, crate::proofs::Places::get_second, crate::proofs::Places::word_second, crate::proofs::Places::words_second))]
     fn get(&mut self, area: u32) -> u16 {
         if self.area_to_first(area) {
             self.first.get(area)
@@ -138,6 +139,7 @@ impl<A: ChannelDevice, B: ChannelDevice> Device for Pair<A, B> {
     }
 }
 
+#[tactic(auto, using(crate::specs::Shown::first_joined, crate::specs::Shown::second_joined))]
 impl<A: ChannelDevice, B: ChannelDevice> ChannelDevice for Pair<A, B> {
     fn asks(&self) -> Asking {
         if self.work_to_first() {
@@ -147,6 +149,7 @@ impl<A: ChannelDevice, B: ChannelDevice> ChannelDevice for Pair<A, B> {
         }
     }
 
+    #[tactic(auto, using(crate::proofs::Places::place_second, crate::proofs::Places::bring_first, crate::proofs::Places::bring_second, crate::proofs::Places::word_second, crate::proofs::Places::words_second))]
     fn bring(&mut self) -> u16 {
         if self.work_to_first() {
             self.first.bring()
@@ -163,11 +166,11 @@ impl<A: ChannelDevice, B: ChannelDevice> ChannelDevice for Pair<A, B> {
         }
     }
 
-    fn finish(&mut self, go_on: bool, tell: bool) {
+    fn finish(&mut self, end: TableEnd) {
         if self.work_to_first() {
-            self.first.finish(go_on, tell);
+            self.first.finish(end);
         } else {
-            self.second.finish(go_on, tell);
+            self.second.finish(end);
         }
     }
 }

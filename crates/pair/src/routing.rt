@@ -1,7 +1,5 @@
-// Which of the two a call goes to. The clauses `first` and `second` say of the pair's control that it comes apart again into
-// those of the two, which is what a caller's proof needs besides.
+// Which of the two a call goes to.
 ghost use Rattle.std.specs.Prelude.{◌≡◌, not, ◌||◌};
-ghost use Rattle.pair.specs.Pairs.{joined, first_of, second_of};
 
 use crate::Pair;
 use device::interface::ChannelDevice;
@@ -9,18 +7,14 @@ use device::interface::ChannelDevice;
 impl<A: ChannelDevice, B: ChannelDevice> Pair<A, B> {
     // Whether a call for this area goes to the first: it does where the first answers to the area.
     pub(crate) fn area_to_first(&self, area: u32) -> bool
-        ensures value { result ≡ A.Device.means.answers (A.Device.control self.now.first) area }
-        ensures first { first_of (joined (A.Device.control self.now.first) (B.Device.control self.now.second)) ≡ A.Device.control self.now.first }
-        ensures second { second_of (joined (A.Device.control self.now.first) (B.Device.control self.now.second)) ≡ B.Device.control self.now.second }
+        ensures { result ≡ A.Device.means.answers (A.Device.control self.now.first) area }
     {
         self.first.answers_to(area)
     }
 
     // Whether the channel's calls go to the first: they do where the first operates, or neither does.
     pub(crate) fn work_to_first(&self) -> bool
-        ensures value { result ≡ (A.Device.means.operating (A.Device.control self.now.first) || not (B.Device.means.operating (B.Device.control self.now.second))) }
-        ensures first { first_of (joined (A.Device.control self.now.first) (B.Device.control self.now.second)) ≡ A.Device.control self.now.first }
-        ensures second { second_of (joined (A.Device.control self.now.first) (B.Device.control self.now.second)) ≡ B.Device.control self.now.second }
+        ensures { result ≡ (A.Device.means.operating (A.Device.control self.now.first) || not (B.Device.means.operating (B.Device.control self.now.second))) }
     {
         self.first.operating() || !self.second.operating()
     }

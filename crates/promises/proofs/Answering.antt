@@ -3,7 +3,7 @@ use Rattle.std.proofs.Common.{◌≡◌, ℕ, Bool, true, false, cond, ◌&&◌,
 use lib.ListN.{length-map}
 use Rattle.refusal.specs.declared.Refusal.{Refusal}
 use Rattle.refusal.specs.declared.Refusal.TheVariants.{Length, Wiring as BadWiring}
-use Rattle.storage.specs.Memory.{core_size}
+use Rattle.storage.specs.Memory.{core_size, size_of}
 use Rattle.engine.specs.declared.place.Position.{Position}
 use Rattle.engine.specs.declared.state.Books.{Books}
 use Rattle.engine.specs.declared.state.Wiring.{Wiring}
@@ -12,8 +12,7 @@ use Rattle.engine.specs.Events.{Event, reset}
 use Rattle.engine.specs.Makes.{Makes}
 use Rattle.engine.specs.Cycle.{storing}
 use Rattle.engine.specs.declared.place.By.TheVariants.{Program}
-use Rattle.controller.specs.declared.call.Answer.{Answer}
-use Rattle.controller.specs.declared.call.Answer.TheVariants.{Done as Accepted, Stepped, Displayed, Found, Counted, Refused}
+use Rattle.controller.specs.declared.call.Outcome.TheVariants.{Done as Accepted, Stepped, Displayed, Found, Counted}
 use Rattle.controller.specs.declared.call.Bill.{Bill}
 use Rattle.controller.specs.declared.call.Call.{Call}
 use Rattle.controller.specs.declared.call.ClearMode.{ClearMode}
@@ -22,8 +21,8 @@ use Rattle.controller.specs.declared.call.Entry.{Entry}
 use Rattle.controller.specs.declared.call.Lent.{Lent}
 use Rattle.controller.specs.declared.call.Lent.TheVariants.{Opened, Other}
 use Rattle.engine.specs.declared.state.Report.{Report}
-use Rattle.controller.specs.Opening.{all_wired, opening, is_accepted, size_of, opened_machine}
-use Rattle.controller.specs.Console.{Done, refuse, only_if, told, at_rest, bill_of, data_switches, i_of, cleared, unprotected, clearing, made_call, lent_right, call}
+use Rattle.controller.specs.Opening.{all_wired, opening, is_accepted, opened_machine}
+use Rattle.controller.specs.Console.{Answer, Done, refuse, only_if, told, at_rest, bill_of, data_switches, i_of, cleared, unprotected, clearing, made_call, lent_right, call}
 use Rattle.controller.specs.Run.{lending, enter, run, after, events_of}
 use Rattle.promises.specs.Bill.{tellings, totals_of, unbilled, since_count}
 use Rattle.promises.specs.Protection.{at_yes}
@@ -34,40 +33,40 @@ use Rattle.promises.proofs.Calls.{CallLaw, call_law}
 
 -- the bill in an answer, if it is one
 bill_in : Bill → Answer → Bill
-bill_in d Accepted = d
-bill_in d (Stepped r) = d
-bill_in d (Displayed w) = d
-bill_in d (Found a) = d
-bill_in d (Counted b) = b
-bill_in d (Refused r) = d
+bill_in d (Ok Accepted) = d
+bill_in d (Ok (Stepped r)) = d
+bill_in d (Ok (Displayed w)) = d
+bill_in d (Ok (Found a)) = d
+bill_in d (Ok (Counted b)) = b
+bill_in d (Err r) = d
 
 is_bill : Answer → Bool
-is_bill Accepted = false
-is_bill (Stepped r) = false
-is_bill (Displayed w) = false
-is_bill (Found a) = false
-is_bill (Counted b) = true
-is_bill (Refused r) = false
+is_bill (Ok Accepted) = false
+is_bill (Ok (Stepped r)) = false
+is_bill (Ok (Displayed w)) = false
+is_bill (Ok (Found a)) = false
+is_bill (Ok (Counted b)) = true
+is_bill (Err r) = false
 
 report_in : Report → Answer → Report
-report_in d Accepted = d
-report_in d (Stepped r) = r
-report_in d (Displayed w) = d
-report_in d (Found a) = d
-report_in d (Counted b) = d
-report_in d (Refused r) = d
+report_in d (Ok Accepted) = d
+report_in d (Ok (Stepped r)) = r
+report_in d (Ok (Displayed w)) = d
+report_in d (Ok (Found a)) = d
+report_in d (Ok (Counted b)) = d
+report_in d (Err r) = d
 
 is_report : Answer → Bool
-is_report Accepted = false
-is_report (Stepped r) = true
-is_report (Displayed w) = false
-is_report (Found a) = false
-is_report (Counted b) = false
-is_report (Refused r) = false
+is_report (Ok Accepted) = false
+is_report (Ok (Stepped r)) = true
+is_report (Ok (Displayed w)) = false
+is_report (Ok (Found a)) = false
+is_report (Ok (Counted b)) = false
+is_report (Err r) = false
 
 pub record AnswersRight (s : Machine) (d : Done) : Type 0 where
-  pub bill : (b : Bill) → d.answer ≡ Counted b → b ≡ bill_of (totals_of s)
-  pub report : (r : Report) → d.answer ≡ Stepped r → (p : Position) → tellings p d.events ≡ told r.counts
+  pub bill : (b : Bill) → d.answer ≡ Ok (Counted b) → b ≡ bill_of (totals_of s)
+  pub report : (r : Report) → d.answer ≡ Ok (Stepped r) → (p : Position) → tellings p d.events ≡ told r.counts
 
 -- an answer that is neither
 neither : (s : Machine) (d : Done) → is_bill d.answer ≡ false → is_report d.answer ≡ false → AnswersRight s d
@@ -103,12 +102,12 @@ enter_answers m Other c s = (answers_calls m).refuses Length s
 
 -- the events since the last accepted count are the tail of all events
 billed_tail : (a : Answer) (ys : List Event) → (xs : List Event) × (ys ≡ xs ++ unbilled a ys)
-billed_tail Accepted ys = ([], refl)
-billed_tail (Stepped r) ys = ([], refl)
-billed_tail (Displayed w) ys = ([], refl)
-billed_tail (Found a) ys = ([], refl)
-billed_tail (Counted b) ys = (ys, sym (append-nil ys))
-billed_tail (Refused r) ys = ([], refl)
+billed_tail (Ok Accepted) ys = ([], refl)
+billed_tail (Ok (Stepped r)) ys = ([], refl)
+billed_tail (Ok (Displayed w)) ys = ([], refl)
+billed_tail (Ok (Found a)) ys = ([], refl)
+billed_tail (Ok (Counted b)) ys = (ys, sym (append-nil ys))
+billed_tail (Err r) ys = ([], refl)
 
 pub run_tail : (m : Makes) (es : List Entry) (s : Machine) (so_far : List Event) → (xs : List Event) × (so_far ++ events_of (run m es s) ≡ xs ++ since_count m es s so_far)
 run_tail m [] s so_far = ([], append-nil so_far)

@@ -1,5 +1,5 @@
 -- The calls, made on two machines that are alike.
-use Rattle.std.proofs.Common.{◌≡◌, ℕ, Bool, true, false, not, ◌&&◌, eqb, ltb, [], ◌∷◌, map, refl, ap, ◌∙◌, subst, ap₂}
+use Rattle.std.proofs.Common.{◌≡◌, ℕ, Bool, true, false, not, ◌&&◌, eqb, ltb, [], ◌∷◌, map, Ok, Option, refl, ap, ◌∙◌, subst, ap₂}
 use Rattle.refusal.specs.declared.Refusal.{Refusal}
 use Rattle.refusal.specs.declared.Refusal.TheVariants.{Length, Wiring, NotStopped, Protected, CycleLimit}
 use Rattle.registers.specs.declared.state.Registers.{Registers}
@@ -13,15 +13,14 @@ use Rattle.engine.specs.Makes.{Makes}
 use Rattle.engine.specs.Cycle.{storing, refer}
 use Rattle.engine.specs.Step.{no_counts, with_totals}
 use Rattle.levels.specs.Standing.{latched}
-use Rattle.controller.specs.declared.call.Answer.{Answer}
-use Rattle.controller.specs.declared.call.Answer.TheVariants.{Stepped, Displayed, Found, Counted}
+use Rattle.controller.specs.declared.call.Outcome.TheVariants.{Stepped, Displayed, Found, Counted}
 use Rattle.controller.specs.declared.call.Call.{Call}
 use Rattle.controller.specs.declared.call.Call.TheVariants.{Step, Start, Stop, ImmediateStop, SetSwitches, Point, LoadI, Load, Display, Clear, Search, Count}
 use Rattle.controller.specs.declared.call.ClearMode.{ClearMode}
 use Rattle.controller.specs.declared.call.ClearMode.TheVariants.{Run as ClearRun, Display as ClearDisplay}
 use Rattle.engine.specs.Instructions.{advanced, i_set}
 use Rattle.controller.specs.Opening.{on_panel}
-use Rattle.controller.specs.Console.{Done, answered, accepted, only_if, told, below_limit, report_of, stepping, at_rest, stopping, with_switches, latching, is_stopped, loading_i, i_of, next_i, loading, displaying, data_switches, change_i, cleared, swept, clearing, searching, bill_of, counting, made_call, lent_right, call}
+use Rattle.controller.specs.Console.{Answer, Done, answered, accepted, only_if, told, below_limit, report_of, stepping, at_rest, stopping, with_switches, latching, is_stopped, loading_i, i_of, next_i, loading, displaying, data_switches, change_i, cleared, swept, clearing, searching, bill_of, counting, made_call, lent_right, call}
 use Rattle.promises.specs.Stains.{Stain, stains, ReadsNoStain, Cores, Alike}
 use Rattle.promises.specs.Protection.{at_yes}
 use Rattle.promises.proofs.Cores.{same_bit}
@@ -65,7 +64,7 @@ change_call f st s t h cl = accepted_same (change_kept f st s t h cl)
 stepping_kept : (m : Makes) → KeptCall (stepping m)
 stepping_kept m st s t h cl =
     let k = step_kept m st s t h cl in
-    done_same (λ u. Stepped (report_of u.processor)) (λ u. Stepped (report_of u.processor)) (ap (λ (p : Processor). Stepped (report_of p)) k.alike.processor) k
+    done_same (λ u. Ok (Stepped (report_of u.processor))) (λ u. Ok (Stepped (report_of u.processor))) (ap (λ (p : Processor). Ok (Stepped (report_of p))) k.alike.processor) k
 
 stopping_kept : (m : Makes) → KeptCall (stopping m)
 stopping_kept m st s t h cl =
@@ -101,7 +100,7 @@ same_i h = ap (λ (p : Processor). p.works.registers.i) h.processor
 displaying_kept : KeptCall displaying
 displaying_kept st s t h cl = record {
   events = ap (λ (x : ℕ). read_from x ∷ []) place_same;
-  answer = ap (λ (w : ℕ). Displayed (eighteen w)) (same_word (i_of s) h cl.0 ∙ ap (λ (i : ℕ). word_in i t) (same_i h));
+  answer = ap (λ (w : ℕ). Ok (Displayed (eighteen w))) (same_word (i_of s) h cl.0 ∙ ap (λ (i : ℕ). word_in i t) (same_i h));
   alike = change_i_alike (λ n. advanced n 1) h;
 }
   where
@@ -124,12 +123,12 @@ clear_kept mode st s t h cl =
     (clearing_kept mode (at_yes s) st s t h cl))
 
 searching_kept : KeptCall searching
-searching_kept st s t h cl = record { events = refl; answer = ap Found (same_search h.cores); alike = h }
+searching_kept st s t h cl = record { events = refl; answer = ap (λ (a : Option ℕ). Ok (Found a)) (same_search h.cores); alike = h }
 
 counting_kept : KeptCall counting
 counting_kept st s t h cl = record {
   events = refl;
-  answer = ap (λ (p : Processor). Counted (bill_of p.books.totals)) h.processor;
+  answer = ap (λ (p : Processor). Ok (Counted (bill_of p.books.totals))) h.processor;
   alike = alike_change (λ p. with_books (with_totals no_counts p.books) p) h;
 }
 

@@ -56,20 +56,20 @@ reads_both m l a next st s t h cl =
 transfer_kept : (c : Channel) (q : Asking) (m : Makes) (l : ChannelNumber) → Kept (transfer c q m l)
 transfer_kept Idle q m l st s t h cl = record { events = refl; alike = h }
 transfer_kept (Head a) q m l st s t h cl = reads_both m l a (λ n w. at_head n a w) st s t h cl
-transfer_kept (Data a k go_on tells) q m l st s t h cl =
-    then_both (set_channel l (Data ((a + 1) % length s.core) (k - 1) go_on tells)) (set_channel l (Data ((a + 1) % length t.core) (k - 1) go_on tells)) cl
+transfer_kept (Data a k end) q m l st s t h cl =
+    then_both (set_channel l (Data ((a + 1) % length s.core) (k - 1) end)) (set_channel l (Data ((a + 1) % length t.core) (k - 1) end)) cl
     (moves_both q m l a st s t h)
-    (λ x. set_both l _ _ (ap (λ (n : ℕ). Data ((a + 1) % n) (k - 1) go_on tells) (same_size h)))
+    (λ x. set_both l _ _ (ap (λ (n : ℕ). Data ((a + 1) % n) (k - 1) end) (same_size h)))
 transfer_kept (NextHead a) q m l st s t h cl = reads_both m l a (λ n w. Head (w % n)) st s t h cl
 
 ending_kept : (c : Channel) (m : Makes) (l : ChannelNumber) → Kept (ending c m l)
 ending_kept Idle m l st s t h cl = record { events = refl; alike = h }
 ending_kept (Head a) m l st s t h cl = record { events = refl; alike = h }
-ending_kept (Data a zero go_on tells) m l st s t h cl =
-    then_both (set_channel l (after_table go_on a)) (set_channel l (after_table go_on a)) cl
-    (calling_kept m (position_of l) (finish go_on tells) st s t h)
+ending_kept (Data a zero end) m l st s t h cl =
+    then_both (set_channel l (after_table end.go_on a)) (set_channel l (after_table end.go_on a)) cl
+    (calling_kept m (position_of l) (finish end.go_on end.tell) st s t h)
     (λ x. set_both l _ _ refl)
-ending_kept (Data a (suc k) go_on tells) m l st s t h cl = record { events = refl; alike = h }
+ending_kept (Data a (suc k) end) m l st s t h cl = record { events = refl; alike = h }
 ending_kept (NextHead a) m l st s t h cl = record { events = refl; alike = h }
 
 -- what a channel stands at and its device asks is the same in both

@@ -116,15 +116,15 @@ module _ {m : Makes} {R : Machine → List Event → Machine → Type 0} (l : Pa
   pub transferred : (c : Channel) (q : Asking) (n : ChannelNumber) (s : Machine) → Doing R s (transfer c q m n s)
   transferred Idle q n s = l.none s
   transferred (Head a) q n s = then_set s (refer (device m (position_of n)) (reading a) s) n (at_head (length s.core) a (data_in a s)) (read_by n a s)
-  transferred (Data a k go_on tell) q n s = then_set s (moves q m n a s) n (Data ((a + 1) % length s.core) (k - 1) go_on tell) (moved q n a s)
+  transferred (Data a k end) q n s = then_set s (moves q m n a s) n (Data ((a + 1) % length s.core) (k - 1) end) (moved q n a s)
   transferred (NextHead a) q n s = then_set s (refer (device m (position_of n)) (reading a) s) n (Head (data_in a s % length s.core)) (read_by n a s)
 
   pub ended : (c : Channel) (n : ChannelNumber) (s : Machine) → Doing R s (ending c m n s)
   ended Idle n s = l.none s
   ended (Head a) n s = l.none s
-  ended (Data a zero go_on tell) n s =
-      then_set s (calling m (position_of n) (finish go_on tell) s) n (after_table go_on a) (l.calls (position_of n) (finish go_on tell) s tt)
-  ended (Data a (suc k) go_on tell) n s = l.none s
+  ended (Data a zero end) n s =
+      then_set s (calling m (position_of n) (finish end.go_on end.tell) s) n (after_table end.go_on a) (l.calls (position_of n) (finish end.go_on end.tell) s tt)
+  ended (Data a (suc k) end) n s = l.none s
   ended (NextHead a) n s = l.none s
 
 module _ {m : Makes} {R : Machine → List Event → Machine → Type 0} (l : Law m R) where

@@ -1,17 +1,15 @@
 -- A refused call comes to nothing, and no call but a step tells a device of a cycle.
-use Rattle.std.proofs.Common.{◌≡◌, Bool, true, false, not, ◌&&◌, ◌≢◌, [], length, sym, refl, ap, ◌∙◌, ne_eqb}
+use Rattle.std.proofs.Common.{◌≡◌, Bool, true, false, not, ◌&&◌, ◌≢◌, [], length, sym, refl, ap, ◌∙◌, ne_eqb, Err, is_ok, true≢false}
 use Rattle.refusal.specs.declared.Refusal.{Refusal}
 use Rattle.refusal.specs.declared.Refusal.TheVariants.{Length, Wiring, NotStopped, Protected, CycleLimit}
 use Rattle.storage.specs.Word.{is_protected}
 use Rattle.engine.specs.declared.place.Position.{Position}
 use Rattle.engine.specs.Machine.{words_of_size, Machine, word_in, with_processor}
 use Rattle.engine.specs.Makes.{Makes}
-use Rattle.controller.specs.declared.call.Answer.{Answer}
-use Rattle.controller.specs.declared.call.Answer.TheVariants.{Done as Accepted, Stepped, Displayed, Found, Counted, Refused}
 use Rattle.controller.specs.declared.call.Call.{Call}
 use Rattle.controller.specs.declared.call.Call.TheVariants.{Step, Start, Stop, ImmediateStop, SetSwitches, Point, LoadI, Load, Display, Clear, Search, Count}
 use Rattle.controller.specs.Opening.{on_panel}
-use Rattle.controller.specs.Console.{Done, accepted, refuse, only_if, at_rest, is_stopped, latching, loading_i, i_of, data_switches, below_limit, stepping, loading, displaying, clearing, searching, made_call, lent_right, call}
+use Rattle.controller.specs.Console.{Answer, Done, accepted, refuse, only_if, at_rest, is_stopped, latching, loading_i, i_of, data_switches, below_limit, stepping, loading, displaying, clearing, searching, made_call, lent_right, call}
 use Rattle.controller.specs.declared.call.ClearMode.{ClearMode}
 use Rattle.controller.specs.declared.call.ClearMode.TheVariants.{Run as ClearRun, Display as ClearDisplay}
 use Rattle.works.specs.declared.panel.Switches.{Switches}
@@ -31,35 +29,18 @@ use Rattle.promises.proofs.Touching.{core_same, core_more, refer_core, perform_c
 use Rattle.promises.proofs.Steps.{step_switch, all_books}
 use Rattle.promises.proofs.Answering.{opened_right, opening_refused}
 
--- an answer that is a refusal, or one that is none
-abbrev is_refusal : Answer → Bool
-is_refusal Accepted = false
-is_refusal (Stepped r) = false
-is_refusal (Displayed w) = false
-is_refusal (Found a) = false
-is_refusal (Counted b) = false
-is_refusal (Refused r) = true
-
 pub record RefusedNothing (s : Machine) (d : Done) : Type 0 where
-  pub nothing : (r : Refusal) → d.answer ≡ Refused r → d ≡ refuse r s
+  pub nothing : (r : Refusal) → d.answer ≡ Err r → d ≡ refuse r s
 
-no_refusal : (s : Machine) (d : Done) → is_refusal d.answer ≡ false → RefusedNothing s d
-no_refusal s d k = record { nothing = λ r e. absurd (mathlib.Core.Bool.true≢false (sym (ap is_refusal e) ∙ k)) }
+no_refusal : (s : Machine) (d : Done) → is_ok d.answer ≡ true → RefusedNothing s d
+no_refusal s d k = record { nothing = λ r e. absurd (true≢false (sym k ∙ ap is_ok e)) }
 
-same_refusal : (r q : Refusal) → Refused r ≡ Refused q → r ≡ q
-same_refusal r q e = ap (refusal_in r) e
-  where
-    refusal_in : Refusal → Answer → Refusal
-    refusal_in d Accepted = d
-    refusal_in d (Stepped x) = d
-    refusal_in d (Displayed x) = d
-    refusal_in d (Found x) = d
-    refusal_in d (Counted x) = d
-    refusal_in d (Refused x) = x
+same_refusal : (r q : Refusal) (a : Answer) → a ≡ Err r → a ≡ Err q → r ≡ q
+same_refusal r q a d e = cc
 
 refusing_calls : (m : Makes) → CallLaw m RefusedNothing
 refusing_calls m = record {
-  refuses = λ r s. record { nothing = λ q e. ap (λ (x : Refusal). refuse x s) (same_refusal r q e) };
+  refuses = λ r s. record { nothing = λ q e. ap (λ (x : Refusal). refuse x s) (same_refusal r q _ refl e) };
   steps = λ s. no_refusal s _ refl;
   runs = λ x s. no_refusal s _ refl;
   stops = λ s. no_refusal s _ refl;
@@ -73,7 +54,7 @@ refusing_calls m = record {
   counts = λ s. no_refusal s _ refl;
 }
 
-refused_none : (m : Makes) (c : Call) (s : Machine) (r : Refusal) → (call m c s).answer ≡ Refused r → call m c s ≡ refuse r s
+refused_none : (m : Makes) (c : Call) (s : Machine) (r : Refusal) → (call m c s).answer ≡ Err r → call m c s ≡ refuse r s
 refused_none m c s r e = (call_law (refusing_calls m) c s).nothing r e
 
 -- a core of another length

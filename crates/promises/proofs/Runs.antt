@@ -6,14 +6,13 @@ use Rattle.engine.specs.declared.place.Position.TheVariants.{First, Second, Thir
 use Rattle.engine.specs.Machine.{Machine}
 use Rattle.engine.specs.Events.{Event}
 use Rattle.engine.specs.Makes.{Makes}
-use Rattle.controller.specs.declared.call.Answer.{Answer}
 use Rattle.controller.specs.declared.call.Bill.{Bill}
 use Rattle.controller.specs.declared.call.Call.{Call}
 use Rattle.controller.specs.declared.call.Entry.{Entry}
 use Rattle.controller.specs.declared.call.Lent.{Lent}
 use Rattle.controller.specs.declared.call.Lent.TheVariants.{Opened, Other}
 use Rattle.controller.specs.Opening.{opened_machine}
-use Rattle.controller.specs.Console.{told, bill_of}
+use Rattle.controller.specs.Console.{Answer, told, bill_of}
 use Rattle.controller.specs.Run.{lending, enter, run, after, answers_of, events_of}
 use Rattle.promises.specs.Ties.{Tied, outgoing}
 use Rattle.promises.specs.Stains.{Stain, unstained, stains, ReadsNoStain, StainedSound, Alike}

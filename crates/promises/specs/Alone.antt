@@ -7,7 +7,6 @@ use Rattle.engine.specs.declared.state.Wiring.{Wiring}
 use Rattle.engine.specs.Machine.{words_of_size, Machine, Dev}
 use Rattle.engine.specs.Makes.{Makes}
 use Rattle.engine.specs.Plan.{Plan, perform}
-use Rattle.controller.specs.declared.call.Answer.TheVariants.{Refused}
 use Rattle.controller.specs.declared.call.Call.{Call}
 use Rattle.controller.specs.declared.call.Call.TheVariants.{Step, SetSwitches, Clear}
 use Rattle.controller.specs.declared.call.ClearMode.TheVariants.{Display as Bits}
@@ -30,7 +29,7 @@ pub record TiesHold : Type 0 where
   pub lists : (m : Makes) (es : List Entry) (s : Machine) → Tied m s (events_of (run m es s)) (after m es s)
   pub plans_core : (m : Makes) (p : Plan) (s : Machine) → CoreTied s (perform m p s).events (perform m p s).machine
   pub calls_core : (m : Makes) (c : Call) (s : Machine) → c ≢ Clear Bits → CoreTied s (call m c s).events (call m c s).machine
-  pub refusals : (m : Makes) (c : Call) (s : Machine) (r : Refusal) → (call m c s).answer ≡ Refused r → call m c s ≡ refuse r s
+  pub refusals : (m : Makes) (c : Call) (s : Machine) (r : Refusal) → (call m c s).answer ≡ Err r → call m c s ≡ refuse r s
   pub no_cycle : (m : Makes) (c : Call) (s : Machine) → c ≢ Step → (p : Position) → tellings p (call m c s).events ≡ 0
   pub switch : (m : Makes) (c : Call) (s : Machine) → ((w : Switches) → c ≢ SetSwitches w) → at_yes (call m c s).machine ≡ at_yes s
   pub another_length : (m : Makes) (c : Call) (s : Machine) → length s.core ≢ words_of_size s.processor.books.size → call m c s ≡ refuse Length s

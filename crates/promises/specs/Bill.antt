@@ -1,14 +1,13 @@
 -- The bill: how often each device was told of a cycle, and what the totals say.
-use Rattle.std.specs.Prelude.{◌≡◌, ℕ, ◌+◌, ◌*◌, ◌≤◌, List, [], ◌∷◌, ◌++◌}
+use Rattle.std.specs.Prelude.{◌≡◌, ℕ, ◌+◌, ◌*◌, ◌≤◌, List, [], ◌∷◌, ◌++◌, Ok, Err}
 use Rattle.works.specs.declared.panel.Counts.{Counts}
 use Rattle.engine.specs.declared.place.Position.{Position}
 use Rattle.engine.specs.Machine.{Machine, upon}
 use Rattle.engine.specs.Makes.{Makes}
 use Rattle.engine.specs.Events.{Event, read_from, stored_at, brought_to, called, Call, passed, command, sense, put, get, bring, take, finish, reset}
-use Rattle.controller.specs.declared.call.Answer.{Answer}
-use Rattle.controller.specs.declared.call.Answer.TheVariants.{Done as Accepted, Stepped, Displayed, Found, Counted, Refused}
+use Rattle.controller.specs.declared.call.Outcome.TheVariants.{Done as Accepted, Stepped, Displayed, Found, Counted}
 use Rattle.controller.specs.declared.call.Entry.{Entry}
-use Rattle.controller.specs.Console.{told}
+use Rattle.controller.specs.Console.{Answer, told}
 use Rattle.controller.specs.declared.call.Bill.{Bill}
 use Rattle.engine.specs.declared.state.Report.{Report}
 use Rattle.controller.specs.Run.{enter, run, after, events_of}
@@ -44,12 +43,12 @@ totals_of s = s.processor.books.totals
 
 -- an accepted count begins anew
 abbrev pub unbilled : Answer → List Event → List Event
-unbilled (Counted bill) so_far = []
-unbilled Accepted so_far = so_far
-unbilled (Stepped report) so_far = so_far
-unbilled (Displayed w) so_far = so_far
-unbilled (Found a) so_far = so_far
-unbilled (Refused r) so_far = so_far
+unbilled (Ok (Counted bill)) so_far = []
+unbilled (Ok Accepted) so_far = so_far
+unbilled (Ok (Stepped report)) so_far = so_far
+unbilled (Ok (Displayed w)) so_far = so_far
+unbilled (Ok (Found a)) so_far = so_far
+unbilled (Err r) so_far = so_far
 
 -- what took place since the last accepted count, where `so_far` took place since then before this list
 abbrev pub since_count : Makes → List Entry → Machine → List Event → List Event
@@ -63,6 +62,6 @@ pub record BillAddsUp (m : Makes) (es : List Entry) (s : Machine) : Type 0 where
   pub adds : (p : Position) → tellings p (since_count m es s []) ≡ told (totals_of (after m es s))
   pub fair : Fair (totals_of (after m es s))
   pub tail : (all : List Event) × (events_of (run m es s) ≡ all ++ since_count m es s [])
-  pub answered : (e : Entry) (b : Bill) → (enter m e (after m es s)).answer ≡ Counted b
+  pub answered : (e : Entry) (b : Bill) → (enter m e (after m es s)).answer ≡ Ok (Counted b)
       → ((p : Position) → tellings p (since_count m es s []) ≡ b.told) × (b.told ≡ b.program + b.stolen + b.idle) × (b.stolen ≤ 3 * (b.program + b.idle))
-  pub reported : (e : Entry) (r : Report) → (enter m e (after m es s)).answer ≡ Stepped r → (p : Position) → tellings p (enter m e (after m es s)).events ≡ told r.counts
+  pub reported : (e : Entry) (r : Report) → (enter m e (after m es s)).answer ≡ Ok (Stepped r) → (p : Position) → tellings p (enter m e (after m es s)).events ≡ told r.counts

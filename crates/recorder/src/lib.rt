@@ -1,166 +1,103 @@
 // The recorder takes words, and keeps how many there were and the latest.
 #![tactic(auto)]
 
-ghost use Rattle.std.specs.Prelude.{◌≡◌, ◌+◌, ◌%◌, [], Err, refl};
-ghost use Rattle.refusal.specs.declared.Refusal.{Refusal as Refused};
-ghost use Rattle.device.specs.Laws.{AnswersNone};
-ghost use Rattle.terminal.specs.Setups.{checked};
-ghost use Rattle.terminal.specs.Terminals.{made_terminal};
-ghost use Rattle.recorder.specs.Recorders.{recorder, recorder_control};
-ghost use Rattle.recorder.specs.Shown.{recorder_lawful};
+ghost use Rattle.std.specs.Prelude.{◌≡◌, [], ◌∷◌, refl};
+ghost use Rattle.terminal.specs.declared.state.Terminal.{Terminal};
+ghost use Rattle.terminal.specs.Terminals.{in_front};
+ghost use Rattle.recorder.specs.Recorders.{recorder_own, recorder_control};
+ghost use Rattle.recorder.specs.Shown.{recorder_apart};
 
-use device::answer::{Asking, DeviceFault};
+use device::answer::Asking;
 use device::function::{CONTROL, INITIALIZE_WRITE, WRITE};
-use device::interface::{ChannelDevice, Device, Make};
-use refusal::Refusal;
-use terminal::setup::Setup;
-use terminal::state::Terminal;
+use device::interface::Device;
+use terminal::station::Station;
+use terminal::work::Work;
 
-mod questions;
+const KIND: u32 = 2;
 
-pub struct RecorderMake;
+pub type Recorder = Station<Tally, KIND>;
 
-impl Make for RecorderMake {
-    const KIND: u32 = 2;
-}
-
-#[derive(Drop)]
-pub struct Recorder {
-    terminal: Terminal,
+// What a recorder has of its own: how many words were handed to it, and the latest of them.
+#[derive(Clone, Copy, PartialEq, Eq, Debug, Default)]
+pub struct Tally {
     count: u32,
     latest: u16,
 }
 
-impl Recorder {
-    // Whether a recorder may be made so.
-    pub fn check(setup: &Setup) -> Result<(), Refusal>
-        ensures { result ≡ checked setup.now }
+impl Tally {
+    // Of no words.
+    pub fn new() -> Tally
+        ensures tally { result ≡ record { count = 0; latest = 0 } }
+        ensures control { (t : Terminal) → in_front t (⟦<Tally as Work<KIND>>⟧.numbers result) ≡ recorder_control t 0 0 }
     {
-        setup.check()
+        Tally::default()
     }
 
-    // A recorder at rest that was handed nothing. Over what the check refuses it answers to no area.
-    pub fn make(setup: &Setup) -> Recorder
-        ensures control { recorder_control result.terminal result.count result.latest ≡ recorder_control (made_terminal setup.now) 0 0 }
-        ensures none { (e : Refused) → checked setup.now ≡ Err e → AnswersNone recorder (recorder_control result.terminal result.count result.latest) }
+    // How many words were handed over, by put and by take; wraps at 32 bits.
+    pub fn count(&self) -> u32
+        ensures { result ≡ self.now.count }
     {
-        Recorder {
-            terminal: Terminal::new(setup),
-            count: 0,
-            latest: 0,
-        }
+        self.count
     }
 
-    // Its control, number by number: area, gap, operating, wait, line, count, latest.
-    pub fn control(&self) -> [usize; 7]
-        ensures { result ≡ recorder_control self.now.terminal self.now.count self.now.latest }
+    // The latest word that was handed over; 0 before the first.
+    pub fn latest(&self) -> u16
+        ensures { result ≡ self.now.latest }
     {
-        let [area, gap, operating, wait, line] = self.terminal.numbers();
-        [
-            area,
-            gap,
-            operating,
-            wait,
-            line,
-            self.count() as usize,
-            usize::from(self.latest()),
-        ]
-    }
-
-    fn record(&mut self, word: u16)
-        ensures terminal { self.new.terminal ≡ self.old.terminal }
-        ensures count { self.new.count ≡ (self.old.count + 1) % 4294967296 }
-        ensures latest { self.new.latest ≡ word }
-    {
-        self.count = self.count.wrapping_add(1);
-        self.latest = word;
+        self.latest
     }
 }
 
-impl Device for Recorder {
-    type Of = RecorderMake;
-
-    ghost control = { λ s. recorder_control s.terminal s.count s.latest };
-
-    ghost words = { λ s. [] };
-
-    ghost means = { recorder };
-
-    ghost lawful = { recorder_lawful };
-
-    ghost numbered = { λ s. refl };
-
-    fn kind(&self) -> u32 {
-        Self::Of::KIND
-    }
-
-    fn answers_to(&self, area: u32) -> bool {
-        self.terminal.answers_to(area)
-    }
-
-    fn takes_function(&self, area: u32, function: u32) -> bool {
-        self.answers_to(area) && matches!(function, WRITE | CONTROL | INITIALIZE_WRITE)
-    }
-
-    fn operating(&self) -> bool {
-        self.terminal.operating
-    }
-
-    fn line(&self) -> bool {
-        self.terminal.line
-    }
-
-    fn command(&mut self, area: u32, function: u32, _modifier: u32) -> Result<(), DeviceFault> {
-        if !self.takes_function(area, function) {
-            return Err(DeviceFault::NotTaken);
-        }
-        self.terminal.command(INITIALIZE_WRITE, function)
-    }
-
-    fn sense(&mut self, area: u32, modifier: u32) -> u16 {
-        self.terminal.sense(area, modifier)
-    }
-
-    fn put(&mut self, area: u32, word: u16) {
-        if self.answers_to(area) {
-            self.record(word);
-        }
-    }
-
-    fn get(&mut self, _area: u32) -> u16 {
-        0
-    }
-
-    fn passed(&mut self) {
-        self.terminal.pass();
-    }
-
-    fn reset(&mut self) {
-        self.terminal.reset();
-    }
+// A recorder's control, number by number: area, gap, operating, wait, line, count, latest.
+pub fn control(recorder: &Recorder) -> [usize; 7]
+    ensures { result ≡ ⟦<Recorder as Device>⟧.control recorder.now }
+{
+    let [area, gap, operating, wait, line] = recorder.numbers();
+    let tally = recorder.work();
+    [
+        area,
+        gap,
+        operating,
+        wait,
+        line,
+        tally.count() as usize,
+        usize::from(tally.latest()),
+    ]
 }
 
-impl ChannelDevice for Recorder {
-    fn asks(&self) -> Asking {
-        if self.terminal.ready() {
-            Asking::Take
-        } else {
-            Asking::Nothing
-        }
+impl Work<KIND> for Tally {
+    ghost own = { recorder_own };
+
+    ghost numbers = { λ tally. tally.count ∷ (tally.latest ∷ []) };
+
+    ghost words = { λ tally. [] };
+
+    ghost kinded = { refl };
+
+    ghost apart = { recorder_apart };
+
+    ghost numbered = { λ t tally. refl };
+
+    fn start(&self) -> u32 {
+        INITIALIZE_WRITE
     }
 
-    fn bring(&mut self) -> u16 {
+    fn takes(&self, function: u32) -> bool {
+        matches!(function, WRITE | CONTROL | INITIALIZE_WRITE)
+    }
+
+    fn wish(&self) -> Asking {
+        Asking::Take
+    }
+
+    fn next_word(&mut self) -> u16 {
         0
     }
 
-    fn take(&mut self, word: u16) {
-        if self.terminal.ready() {
-            self.record(word);
-            self.terminal.wait_for_gap();
-        }
-    }
-
-    fn finish(&mut self, go_on: bool, tell: bool) {
-        self.terminal.finish(go_on, tell);
+    fn hand(&mut self, word: u16) {
+        *self = Tally {
+            count: self.count.wrapping_add(1),
+            latest: word,
+        };
     }
 }

@@ -4,42 +4,35 @@
 ghost use Rattle.std.specs.Prelude.{◌≡◌, Some};
 ghost use Rattle.refusal.specs.Numbers.{number as refusal_number, text as refusal_text};
 
+use std::error::Error;
 use std::fmt;
 
-#[derive(Clone, Copy, PartialEq, Eq, Debug)]
+// Each with its number.
+#[derive(Clone, Copy, PartialEq, Eq, Hash, Debug)]
 pub enum Refusal {
     // a core whose length is not one of the four sizes, or an image that does not fit the core
-    Length,
+    Length = 1,
     // a level outside 0 to 23, or a bit outside 0 to 15
-    Wiring,
+    Wiring = 2,
     // a device's area outside 1 to 31
-    Area,
+    Area = 3,
     // a device's gap outside 1 to 255
-    Gap,
+    Gap = 4,
     // a call of the console that wants a stopped controller
-    NotStopped,
+    NotStopped = 5,
     // a word loaded where a protected word stands
-    Protected,
+    Protected = 6,
     // a step when so many cycles were told that no more are counted
-    CycleLimit,
+    CycleLimit = 7,
     // an image record whose first byte is above 3
-    ImageByte,
+    ImageByte = 8,
 }
 
 impl Refusal {
     pub fn number(self) -> u32
         ensures { result ≡ refusal_number self }
     {
-        match self {
-            Refusal::Length => 1,
-            Refusal::Wiring => 2,
-            Refusal::Area => 3,
-            Refusal::Gap => 4,
-            Refusal::NotStopped => 5,
-            Refusal::Protected => 6,
-            Refusal::CycleLimit => 7,
-            Refusal::ImageByte => 8,
-        }
+        self as u32
     }
 }
 
@@ -51,3 +44,5 @@ impl fmt::Display for Refusal {
         write!(f, "refused {number}")
     }
 }
+
+impl Error for Refusal {}

@@ -1,14 +1,15 @@
 -- The closed forms of shifts.
-use Rattle.std.proofs.Common.{◌≡◌, ℕ, zero, suc, ◌+◌, ◌-◌, ◌*◌, ◌/◌, ◌%◌, ◌^◌, ◌<◌, ◌≤◌, Bool, true, false, leb, ℤ, pos, negsuc, sym, refl, ap, ◌∙◌, subst, ⊎_elim, mul_assoc, add-mul, pow-suc, arith, le-ltb, lt-ltb, leb-false, leb-true}
+use Rattle.std.proofs.Common.{◌≡◌, ℕ, zero, suc, ◌+◌, ◌-◌, ◌*◌, ◌/◌, ◌%◌, ◌^◌, ◌<◌, ◌≤◌, true, false, leb, ℤ, pos, negsuc, sym, refl, ap, ◌∙◌, ⊎_elim, mul_assoc, add-mul, pow-suc, arith, leb-false}
 use lib.Signed.{shr_z}
 use Rattle.std.proofs.lemmas.Nat.{shr-shr, pow-add, mod-pow-add}
 use Rattle.std.proofs.lemmas.Bool.{cases_Bool}
+use Rattle.std.proofs.lemmas.Int.{ints}
 use Rattle.registers.specs.declared.state.Registers.{Registers}
 use Rattle.registers.specs.declared.state.Shift.{Shift}
 use Rattle.registers.specs.declared.state.Shift.TheVariants.{LeftA, LeftBoth, RightA, RightBoth, Rotate}
 use Rattle.registers.specs.Parts.{both, with_both}
 use Rattle.registers.specs.Arithmetic.{signed_both}
-use Rattle.registers.specs.Shifts.{once, times, counted, count_left}
+use Rattle.registers.specs.Shifts.{once, times, count_left}
 use Rattle.register_laws.specs.Laws.{Sixteen}
 use Rattle.register_laws.proofs.Signs.{below, both_of}
 use Rattle.register_laws.specs.ShiftLaws.{Counts, ShiftRules}
@@ -34,94 +35,49 @@ sixteen (suc n) s r t = sixteen n s (once s r) (once_sixteen s r t)
 
 -- one power more
 double : (x n : ℕ) → x * 2 ^ suc n ≡ x * 2 ^ n * 2
-double x n = ap (λ (k : ℕ). x * k) (pow-suc 2 n) ∙ sym (mul_assoc x (2 ^ n) 2)
-
-cut : (y : ℕ) → y % 65536 * 2 % 65536 ≡ y * 2 % 65536
-cut y = omega arith
-
-cut_both : (y : ℕ) → y % 4294967296 * 2 % 4294967296 ≡ y * 2 % 4294967296
-cut_both y = omega arith
+double x n = grind (arith, pow-suc 2 n)
 
 left : (n : ℕ) (r : Registers) → Sixteen r → (times n LeftA r).a ≡ r.a * 2 ^ n % 65536
-left zero r t = let x = t.a in omega arith
-left (suc n) r t =
-    ap (λ (x : Registers). x.a) (times_last n LeftA r)
-    ∙ ap (λ (x : ℕ). x * 2 % 65536) (left n r t)
-    ∙ cut (r.a * 2 ^ n)
-    ∙ ap (λ (x : ℕ). x % 65536) (sym (double r.a n))
+left zero r t = grind (arith, t.a)
+left (suc n) r t = grind (arith, times_last n LeftA r, left n r t, double r.a n)
 
 left_carry : (n : ℕ) (r : Registers) → Sixteen r → (times (suc n) LeftA r).carry ≡ leb 32768 (r.a * 2 ^ n % 65536)
-left_carry n r t = ap (λ (x : Registers). x.carry) (times_last n LeftA r) ∙ ap (leb 32768) (left n r t)
+left_carry n r t = grind (arith, times_last n LeftA r, left n r t)
 
 left_both : (n : ℕ) (r : Registers) → Sixteen r → both (times n LeftBoth r) ≡ both r * 2 ^ n % 4294967296
-left_both zero r t = let b = below r t in omega arith
-left_both (suc n) r t =
-    ap both (times_last n LeftBoth r)
-    ∙ both_of (both (times n LeftBoth r) * 2 % 4294967296) (times n LeftBoth r)
-    ∙ ap (λ (x : ℕ). x * 2 % 4294967296) (left_both n r t)
-    ∙ cut_both (both r * 2 ^ n)
-    ∙ ap (λ (x : ℕ). x % 4294967296) (sym (double (both r) n))
-
-top : (r : Registers) → Sixteen r → leb 32768 r.a ≡ leb 2147483648 (both r)
-top r t = let x = t.q in grind arith
+left_both zero r t = grind (arith, below r t)
+left_both (suc n) r t = grind (arith, times_last n LeftBoth r, left_both n r t, double (both r) n)
 
 left_both_carry : (n : ℕ) (r : Registers) → Sixteen r → (times (suc n) LeftBoth r).carry ≡ leb 2147483648 (both r * 2 ^ n % 4294967296)
 left_both_carry n r t =
-    ap (λ (x : Registers). x.carry) (times_last n LeftBoth r) ∙ top (times n LeftBoth r) (sixteen n LeftBoth r t) ∙ ap (leb 2147483648) (left_both n r t)
+    let v : Registers = times n LeftBoth r in
+    let x = (sixteen n LeftBoth r t).q in
+    grind (arith, times_last n LeftBoth r, left_both n r t)
 
 right : (n : ℕ) (r : Registers) → (times n RightA r).a ≡ r.a / 2 ^ n
 right zero r = omega arith
-right (suc n) r =
-    ap (λ (x : Registers). x.a) (times_last n RightA r)
-    ∙ ap (λ (x : ℕ). x / 2) (right n r)
-    ∙ shr-shr r.a n 1
-    ∙ ap (λ (k : ℕ). r.a / 2 ^ k) (let e : n + 1 ≡ suc n = omega arith in e)
+right (suc n) r = grind (arith, times_last n RightA r, right n r, shr-shr r.a n 1)
 
 -- one step right of a signed number halves it, rounded down
 half : (x : ℕ) → x < 4294967296 → signed_both (x / 2 + x / 2147483648 * 2147483648) ≡ shr_z (signed_both x) 2
-half x h = by (leb 2147483648 x) refl
-  where
-    by : (t : Bool) → leb 2147483648 x ≡ t → signed_both (x / 2 + x / 2147483648 * 2147483648) ≡ shr_z (signed_both x) 2
-    by true e =
-        let g = leb-true 2147483648 x e in
-        let q : x / 2147483648 ≡ 1 = omega arith in
-        let a : signed_both x ≡ negsuc (4294967296 - suc x) = rw (le-ltb x 2147483648 g) in
-        let y : 2147483648 ≤ x / 2 + 1 * 2147483648 = omega arith in
-        let w : x / 2 + 1 * 2147483648 ≡ x / 2 + 2147483648 = omega arith in
-        let b : signed_both (x / 2 + 1 * 2147483648) ≡ negsuc (4294967296 - suc (x / 2 + 2147483648)) = rw (le-ltb (x / 2 + 1 * 2147483648) 2147483648 y) (ap (λ (k : ℕ). negsuc (4294967296 - suc k)) w) in
-        let c : 4294967296 - suc (x / 2 + 2147483648) ≡ (4294967296 - suc x) / 2 = omega arith in
-        rw (q, b, a) (ap negsuc c)
-    by false e =
-        let g = leb-false 2147483648 x e in
-        let q : x / 2147483648 ≡ 0 = omega arith in
-        let a : signed_both x ≡ pos x = rw (lt-ltb x 2147483648 g) in
-        let w : x / 2 + 0 * 2147483648 ≡ x / 2 = omega arith in
-        let b : signed_both (x / 2 + 0 * 2147483648) ≡ pos (x / 2) = rw (w, lt-ltb (x / 2) 2147483648 (omega arith)) in
-        rw (q, b, a) refl
+half x h = grind (arith, ints)
 
 halves : (z : ℤ) (n : ℕ) → shr_z (shr_z z (2 ^ n)) 2 ≡ shr_z z (2 ^ suc n)
-halves (pos a) n = ap pos (shr-shr a n 1 ∙ ap (λ (k : ℕ). a / 2 ^ k) (let e : n + 1 ≡ suc n = omega arith in e))
-halves (negsuc a) n = ap negsuc (shr-shr a n 1 ∙ ap (λ (k : ℕ). a / 2 ^ k) (let e : n + 1 ≡ suc n = omega arith in e))
+halves (pos a) n = grind (arith, shr-shr a n 1)
+halves (negsuc a) n = grind (arith, shr-shr a n 1)
 
 whole : (z : ℤ) → shr_z z 1 ≡ z
-whole (pos a) = ap pos (let e : a / 1 ≡ a = omega arith in e)
-whole (negsuc a) = ap negsuc (let e : a / 1 ≡ a = omega arith in e)
+whole z = grind (arith, ints)
 
 right_both : (n : ℕ) (r : Registers) → Sixteen r → signed_both (both (times n RightBoth r)) ≡ shr_z (signed_both (both r)) (2 ^ n)
 right_both zero r t = sym (whole (signed_both (both r)))
 right_both (suc n) r t =
     let v : Registers = times n RightBoth r in
-    ap (λ (x : Registers). signed_both (both x)) (times_last n RightBoth r)
-    ∙ ap signed_both (both_of (both v / 2 + both v / 2147483648 * 2147483648) v)
-    ∙ half (both v) (below v (sixteen n RightBoth r t))
-    ∙ ap (λ (z : ℤ). shr_z z 2) (right_both n r t)
-    ∙ halves (signed_both (both r)) n
+    grind (arith, times_last n RightBoth r, half (both v) (below v (sixteen n RightBoth r t)), right_both n r t, halves (signed_both (both r)) n)
 
 -- one step around: the lowest of the high part comes in above the low part, p = 2 ^ (31 - n)
 turn : (h l p : ℕ) → (h + l * (p * 2)) / 2 + (h + l * (p * 2)) % 2 * 2147483648 ≡ h / 2 + l * p + h % 2 * 2147483648
-turn h l p =
-    let e : l * (p * 2) ≡ l * p * 2 = sym (mul_assoc l p 2) in
-    rw e (omega arith)
+turn h l p = grind arith
 
 around : (n : ℕ) (r : Registers) → n ≤ 32 → Sixteen r → both (times n Rotate r) ≡ both r / 2 ^ n + both r % 2 ^ n * 2 ^ (32 - n)
 around zero r h t = omega arith
@@ -149,34 +105,14 @@ around_all n r e t =
 
 -- counting: at a one in bit 0, and else one step and then the rest
 at_one : (n : ℕ) (s : Shift) (r : Registers) → leb 32768 r.a ≡ true → Counts (suc n) s r
-at_one n s r e =
-    let l : count_left (suc n) s r ≡ suc n = rw e in
-    let c : counted (suc n) s r ≡ r = rw e in
-    let z : suc n - count_left (suc n) s r ≡ 0 = omega arith in
-    record {
-      bound = omega arith;
-      steps = c ∙ ap (λ (k : ℕ). times k s r) (sym z);
-      stops = λ h. subst (λ (x : Registers). 32768 ≤ x.a) (sym c) (leb-true 32768 r.a e);
-      goes = λ k h. absurd (omega arith);
-    }
+at_one n s r e = record { bound = grind arith; steps = grind arith; stops = λ h. grind arith; goes = λ k h. grind arith }
 
 going : (n : ℕ) (s : Shift) (r : Registers) → leb 32768 r.a ≡ false → Counts n s (once s r) → Counts (suc n) s r
-going n s r e i =
-    let l : count_left (suc n) s r ≡ count_left n s (once s r) = rw e in
-    let c : counted (suc n) s r ≡ counted n s (once s r) = rw e in
-    let b = i.bound in
-    let m : ℕ = n - count_left n s (once s r) in
-    let z : suc n - count_left (suc n) s r ≡ suc (n - count_left n s (once s r)) = omega arith in
-    record {
-      bound = omega arith;
-      steps = c ∙ i.steps ∙ ap (λ (k : ℕ). times k s r) (sym z);
-      stops = λ h. subst (λ (x : Registers). 32768 ≤ x.a) (sym c) (i.stops (omega arith));
-      goes = λ k h. first k (omega arith);
-    }
+going n s r e i = record { bound = grind arith; steps = grind (arith, i.bound, i.steps); stops = λ h. grind (arith, i.bound, i.stops); goes = first }
   where
-    first : (k : ℕ) → k < suc (n - count_left n s (once s r)) → (times k s r).a < 32768
+    first : (k : ℕ) → k < suc n - count_left (suc n) s r → (times k s r).a < 32768
     first zero h = leb-false 32768 r.a e
-    first (suc k) h = i.goes k (omega arith)
+    first (suc k) h = grind (arith, i.bound, i.goes)
 
 counts : (n : ℕ) (s : Shift) (r : Registers) → Counts n s r
 counts zero s r = record { bound = omega arith; steps = refl; stops = λ h. absurd (omega arith); goes = λ k h. absurd (omega arith) }

@@ -1,3 +1,4 @@
+pub mod Sums
 pub mod Closed
 pub mod Division
 pub mod Signs

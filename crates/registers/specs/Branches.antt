@@ -1,5 +1,5 @@
 -- Conditions, index registers and status.
-use Rattle.std.specs.Prelude.{ℕ, ◌+◌, ◌*◌, ◌/◌, ◌%◌, Bool, false, cond, not, ◌&&◌, ◌||◌, pos, ◌==◌, int_lt}
+use Rattle.std.specs.Prelude.{ℕ, ◌+◌, ◌*◌, ◌/◌, ◌%◌, Bool, false, if◌then◌else◌, not, ◌&&◌, ◌||◌, pos, ◌==◌, int_lt}
 use Rattle.instruction.specs.declared.words.Index.{Index}
 use Rattle.instruction.specs.declared.words.Conditions.{Conditions}
 use Rattle.registers.specs.declared.state.Registers.{Registers}
@@ -26,7 +26,7 @@ abbrev pub below_zero : ℕ → Bool
 below_zero n = int_lt (signed n) (pos 0)
 
 abbrev pub skips : ℕ → ℕ → Bool
-skips old by = modified old by == 0 || cond (below_zero old) (not (below_zero (modified old by))) (below_zero (modified old by))
+skips old by = modified old by == 0 || (if below_zero old then not (below_zero (modified old by)) else below_zero (modified old by))
 
 -- MDX of I, with no tag, in the short form: it never skips
 abbrev pub i_modified : ℕ → Registers → Registers
@@ -41,7 +41,7 @@ status_loaded word r = with_flags (word / 2 % 2 == 1) (word % 2 == 1) r
 
 -- STS: bits 0 to 7 of the word stay, 8 to 13 are 0, Carry and Overflow are in 14 and 15; both are off afterwards
 abbrev pub status_word : ℕ → Registers → ℕ
-status_word word r = word / 256 * 256 + cond r.carry 2 0 + cond r.overflow 1 0
+status_word word r = word / 256 * 256 + (if r.carry then 2 else 0) + (if r.overflow then 1 else 0)
 
 abbrev pub status_stored : Registers → Registers
 status_stored r = with_flags false false r

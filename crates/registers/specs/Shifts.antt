@@ -1,5 +1,5 @@
 -- Shifts. One shift is one step, and a count is so many steps.
-use Rattle.std.specs.Prelude.{ℕ, zero, suc, ◌+◌, ◌*◌, ◌/◌, ◌%◌, Bool, true, false, cond, Some, None, Option, ◌==◌, nat_le, nat_lt}
+use Rattle.std.specs.Prelude.{ℕ, zero, suc, ◌+◌, ◌*◌, ◌/◌, ◌%◌, Bool, true, false, if◌then◌else◌, Some, None, Option, ◌==◌, nat_le, nat_lt}
 use Rattle.instruction.specs.declared.words.Index.{Index}
 use Rattle.instruction.specs.declared.words.Fields.{Fields}
 use Rattle.registers.specs.declared.state.Registers.{Registers}
@@ -23,11 +23,11 @@ times (suc n) s r = times n s (once s r)
 -- Shift and count: as long as bit 0 of A is off and the count lasts. The registers then, and the count left.
 abbrev pub counted : ℕ → Shift → Registers → Registers
 counted zero s r = r
-counted (suc n) s r = cond (nat_le 32768 r.a) r (counted n s (once s r))
+counted (suc n) s r = if nat_le 32768 r.a then r else counted n s (once s r)
 
 abbrev pub count_left : ℕ → Shift → Registers → ℕ
 count_left zero s r = 0
-count_left (suc n) s r = cond (nat_le 32768 r.a) (suc n) (count_left n s (once s r))
+count_left (suc n) s r = if nat_le 32768 r.a then suc n else count_left n s (once s r)
 
 -- the count: the low six bits of the displacement, or of the index register that the tag names
 abbrev pub shift_count : Option Index → ℕ → Registers → ℕ
@@ -41,7 +41,7 @@ count_kept x left r = with_flags (nat_lt 0 left) r.overflow (with_index x (index
 
 -- SLCA and SLC with a tag: a count of 0 does nothing
 abbrev pub counting : Index → ℕ → Shift → Registers → Registers
-counting x n s r = cond (n == 0) r (count_kept x (count_left n s r) (counted n s r))
+counting x n s r = if n == 0 then r else count_kept x (count_left n s r) (counted n s r)
 
 -- SLA and SLT, and with a tag and bit 9 on SLCA and SLC; bit 8 is on for A and Q
 abbrev pub left_kind : Bool → Shift

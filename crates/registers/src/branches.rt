@@ -7,7 +7,7 @@ use crate::state::Registers;
 use instruction::words::{Conditions, Index};
 
 // What MDX makes of a word, and whether it then skips.
-#[derive(Clone, Copy)]
+#[derive(Clone, Copy, Debug, PartialEq, Eq)]
 pub struct Modified {
     pub word: u16,
     pub skip: bool,
@@ -20,14 +20,9 @@ pub fn modify(old: u16, by: u16) -> Modified
     let word = old.wrapping_add(by);
     let was_negative = old.cast_signed() < 0;
     let is_negative = word.cast_signed() < 0;
-    let turned = if was_negative {
-        !is_negative
-    } else {
-        is_negative
-    };
     Modified {
         word,
-        skip: word == 0 || turned,
+        skip: word == 0 || was_negative != is_negative,
     }
 }
 

@@ -3,5 +3,8 @@
 
 pub mod arithmetic;
 pub mod branches;
+pub mod double;
+pub mod operand;
 pub mod shifts;
 pub mod state;
+pub mod word;

@@ -1,5 +1,5 @@
 // The registers, plain.
-#[derive(Clone, Copy)]
+#[derive(Clone, Copy, Debug, Default, PartialEq, Eq)]
 pub struct Registers {
     // the instruction register
     pub i: u16,
@@ -7,7 +7,7 @@ pub struct Registers {
     pub a: u16,
     // its extension
     pub q: u16,
-    // the index registers
+    // the index registers, each by its name and not in an array: a tag names one of three, and no index has to be bounded
     pub x1: u16,
     pub x2: u16,
     pub x3: u16,
@@ -15,16 +15,8 @@ pub struct Registers {
     pub overflow: bool,
 }
 
-// What a comparison answers: of the accumulator, against the operand.
-#[derive(Clone, Copy)]
-pub enum Comparison {
-    Greater,
-    Less,
-    Same,
-}
-
 // One kind of shift: of A alone, or of A and Q as one number.
-#[derive(Clone, Copy)]
+#[derive(Clone, Copy, Debug, PartialEq, Eq)]
 pub enum Shift {
     LeftA,
     LeftBoth,

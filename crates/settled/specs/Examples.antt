@@ -1,6 +1,6 @@
 -- The settled examples: numbers that were agreed by hand before there was any code, and worked examples of the machine's manual. One
 -- list for the whole controller; an example says which numbers the definitions work out, and which were settled.
-use Rattle.std.specs.Prelude.{◌≡◌, ℕ, Bool, true, false, cond, List, [], ◌∷◌, ◌++◌, map, Some}
+use Rattle.std.specs.Prelude.{◌≡◌, ℕ, Bool, true, false, if◌then◌else◌, List, [], ◌∷◌, ◌++◌, map, Some}
 use Rattle.std.specs.List.{AllByRecursion}
 use Rattle.storage.specs.Word.{word_of}
 use Rattle.instruction.specs.declared.words.Index.TheVariants.{One}
@@ -27,7 +27,7 @@ abbrev pub holding : ℕ → ℕ → ℕ → Registers
 holding a q x = record { i = 0; a = a; q = q; x1 = x; x2 = 0; x3 = 0; carry = false; overflow = false }
 
 abbrev pub bit : Bool → ℕ
-bit b = cond b 1 0
+bit b = if b then 1 else 0
 
 abbrev pub seen : Registers → List ℕ
 seen r = r.a ∷ (r.q ∷ (r.x1 ∷ (bit r.carry ∷ (bit r.overflow ∷ []))))

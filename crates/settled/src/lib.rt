@@ -4,12 +4,14 @@
 ghost use Rattle.std.specs.Prelude.{◌≡◌, ◌++◌, map, length};
 ghost use Rattle.settled.specs.Examples.{AllHold, examples, word_examples, sum_examples, division_examples, shift_examples, counting_examples, skips_at, bit as the_bit, numbers, holding as the_registers, seen as the_seen, count_a};
 ghost use Rattle.registers.specs.Branches.{holds};
+ghost use Rattle.registers.specs.Shifts.{shifted_left};
 
 use instruction::words::{Conditions, Fields, Index};
 use registers::state::Registers;
 use storage::word::word_of;
 
 // How many examples there are; each of them holds of the definitions.
+#[tactic(auto, using(crate::proofs::Same::all_hold))]
 pub fn examples_that_hold() -> usize
     ensures hold { AllHold }
     ensures count { result ≡ length examples }
@@ -28,14 +30,10 @@ fn holding(a: u16, q: u16, x1: u16) -> Registers
     ensures { result ≡ the_registers a q x1 }
 {
     Registers {
-        i: 0,
         a,
         q,
         x1,
-        x2: 0,
-        x3: 0,
-        carry: false,
-        overflow: false,
+        ..Registers::default()
     }
 }
 
@@ -45,8 +43,8 @@ pub fn settled_sums() -> (Registers, Registers)
 {
     let mut first = holding(32_767, 0, 0);
     let mut second = holding(65_535, 0, 0);
-    first.add(1);
-    second.add(1);
+    first.add(1u16);
+    second.add(1u16);
     (first, second)
 }
 
@@ -66,47 +64,39 @@ fn counting() -> Fields
     ensures { result ≡ count_a }
 {
     Fields {
-        long: false,
         tag: Some(Index::One),
         displacement: 64,
-        indirect: false,
         branch_out: true,
-        conditions: Conditions {
-            zero: false,
-            minus: false,
-            plus: false,
-            even: false,
-            carry_off: false,
-            overflow_off: false,
-        },
-        count: 0,
+        ..Fields::default()
     }
+}
+
+// Registers after that, with A and index register 1 as given.
+fn counted(a: u16, x1: u16) -> Registers
+    ensures { result ≡ shifted_left count_a (the_registers a 0 x1) }
+{
+    let mut registers = holding(a, 0, x1);
+    registers.shift_left(&counting());
+    registers
 }
 
 // What the code makes of the examples on shift and count.
 pub fn settled_shifts() -> (Registers, Registers)
     ensures { the_seen result.0 ++ the_seen result.1 ≡ numbers shift_examples }
 {
-    let mut first = holding(4_096, 0, 325);
-    let mut second = holding(0, 0, 325);
-    first.shift_left(&counting());
-    second.shift_left(&counting());
-    (first, second)
+    (counted(4_096, 325), counted(0, 325))
 }
 
 // What the code makes of the manual's examples on shift and count.
 pub fn settled_counts() -> (Registers, Registers, Registers, Registers)
     ensures { the_seen result.0 ++ (the_seen result.1 ++ (the_seen result.2 ++ the_seen result.3)) ≡ numbers counting_examples }
 {
-    let mut three = holding(2_048, 0, 3);
-    let mut four = holding(2_048, 0, 4);
-    let mut five = holding(2_048, 0, 5);
-    let mut six = holding(2_048, 0, 6);
-    three.shift_left(&counting());
-    four.shift_left(&counting());
-    five.shift_left(&counting());
-    six.shift_left(&counting());
-    (three, four, five, six)
+    (
+        counted(2_048, 3),
+        counted(2_048, 4),
+        counted(2_048, 5),
+        counted(2_048, 6),
+    )
 }
 
 fn skips(a: u16, conditions: &Conditions) -> bool
@@ -124,14 +114,7 @@ pub fn settled_skips(zero: bool, minus: bool, plus: bool, even: bool) -> [bool; 
         minus,
         plus,
         even,
-        carry_off: false,
-        overflow_off: false,
+        ..Conditions::default()
     };
-    [
-        skips(0, &conditions),
-        skips(1, &conditions),
-        skips(2, &conditions),
-        skips(65_535, &conditions),
-        skips(65_534, &conditions),
-    ]
+    [0, 1, 2, 65_535, 65_534].map(|a| skips(a, &conditions))
 }

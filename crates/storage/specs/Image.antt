@@ -1,6 +1,6 @@
 -- An image file keeps a core: for each storage word a record of three bytes, in order of address, and nothing else.
 -- A record is the flags, which are the protect bit plus twice the parity bit; the high byte of the data; the low byte.
-use Rattle.std.specs.Prelude.{◌≡◌, ℕ, ◌+◌, ◌*◌, ◌/◌, ◌%◌, Bool, true, cond, ◌&&◌, List, [], ◌∷◌, ◌++◌, map, length, Ok, Err, Result, ◌==◌, nat_le}
+use Rattle.std.specs.Prelude.{◌≡◌, ℕ, ◌+◌, ◌*◌, ◌/◌, ◌%◌, Bool, true, if◌then◌else◌, ◌&&◌, List, [], ◌∷◌, ◌++◌, map, length, Ok, Err, Result, ◌==◌, nat_le}
 use Rattle.refusal.specs.declared.Refusal.{Refusal}
 use Rattle.refusal.specs.declared.Refusal.TheVariants.{Length, ImageByte}
 use Rattle.storage.specs.Word.{eighteen, data_of, protect_bit, parity_bit}
@@ -37,7 +37,7 @@ fits n bytes = core_size n && bytes == 3 * n
 
 -- Decoding into a core of n words: refused by length, which is 1, and then by flags, which is 8.
 abbrev pub decoding : List ℕ → ℕ → Result (Unit {0}) Refusal
-decoding image n = cond (fits n (length image)) (cond (all_flags_fit image) (Ok tt) (Err ImageByte)) (Err Length)
+decoding image n = if fits n (length image) then (if all_flags_fit image then Ok tt else Err ImageByte) else Err Length
 
 abbrev pub after_decoding : Result (Unit {0}) Refusal → List ℕ → List ℕ → List ℕ
 after_decoding (Ok u) image core = words_of image
@@ -45,7 +45,7 @@ after_decoding (Err e) image core = core
 
 -- Encoding a core of n words into a buffer of so many bytes: refused by length, which is 1.
 abbrev pub encoding : ℕ → ℕ → Result (Unit {0}) Refusal
-encoding n bytes = cond (fits n bytes) (Ok tt) (Err Length)
+encoding n bytes = if fits n bytes then Ok tt else Err Length
 
 abbrev pub after_encoding : Result (Unit {0}) Refusal → List ℕ → List ℕ → List ℕ
 after_encoding (Ok u) core buffer = bytes_of core

@@ -1,6 +1,6 @@
 -- A storage word: the low eighteen bits of a host's number. Sixteen are data, the next is the protect bit, the
 -- highest is the parity bit. What a host keeps above them is ignored.
-use Rattle.std.specs.Prelude.{◌≡◌, ℕ, ◌+◌, ◌-◌, ◌*◌, ◌/◌, ◌%◌, ◌<◌, Bool, true, cond, ◌==◌, count_ones}
+use Rattle.std.specs.Prelude.{◌≡◌, ℕ, ◌+◌, ◌-◌, ◌*◌, ◌/◌, ◌%◌, ◌<◌, Bool, true, if◌then◌else◌, ◌==◌, count_ones}
 
 -- the eighteen bits
 abbrev pub eighteen : ℕ → ℕ
@@ -24,7 +24,7 @@ parity_right w = count_ones (eighteen w) % 2 == 1
 
 -- data and protect bit, without parity
 abbrev pub seventeen_bits : ℕ → Bool → ℕ
-seventeen_bits d p = cond p 1 0 * 65536 + d
+seventeen_bits d p = (if p then 1 else 0) * 65536 + d
 
 -- with the parity bit, which is on where the others hold an even count of ones
 abbrev pub with_parity : ℕ → ℕ

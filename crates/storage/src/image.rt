@@ -22,6 +22,7 @@ fn flags_fit(flags: u8) -> bool
 fn all_flags_fit(image: &[u8]) -> bool
     ensures { result ≡ all_flags_fit image.now }
 {
+    // By a pattern of three named bytes and the rest, as each image record is taken apart here, and not by `all`.
     let mut rest = image;
     while let [flags, _high, _low, more @ ..] = rest {
         if !flags_fit(*flags) {
@@ -36,17 +37,15 @@ fn all_flags_fit(image: &[u8]) -> bool
 fn word_from(flags: u8, high: u8, low: u8) -> u32
     ensures { result ≡ record_word flags high low }
 {
-    u32::from(flags) * 65_536 + u32::from(high) * 256 + u32::from(low)
+    u32::from_be_bytes([0, flags, high, low])
 }
 
-// The record of a word.
+// The record of a word. The bits above its eighteen are left out.
 fn record_from(word: u32) -> [u8; 3]
     ensures { result ≡ record_of word }
 {
-    let flags = (word / 65_536 % 4) as u8;
-    let high = (word / 256 % 256) as u8;
-    let low = (word % 256) as u8;
-    [flags, high, low]
+    let [_, flags, high, low] = word.to_be_bytes();
+    [flags % 4, high, low]
 }
 
 // Fills the core from the image. Every test comes before the first word is written.
@@ -61,10 +60,11 @@ pub fn decode(image: &[u8], core: &mut [u32]) -> Result<(), Refusal>
     if !all_flags_fit(image) {
         return Err(Refusal::ImageByte);
     }
+    // By a pattern too. As many records are left as words.
     let mut rest = image;
     for word in core.iter_mut() {
         let [flags, high, low, more @ ..] = rest else {
-            unreachable()
+            unreachable!();
         };
         *word = word_from(*flags, *high, *low);
         rest = more;
@@ -81,6 +81,7 @@ pub fn encode(core: &[u32], image: &mut [u8]) -> Result<(), Refusal>
     if !fits(core.len(), image.len()) {
         return Err(Refusal::Length);
     }
+    // By index: tried by `chunks_exact_mut` and by a walk down the slice, after which no contract says what the slice has become.
     for (address, word) in core.iter().enumerate() {
         let at = 3 * address;
         let [flags, high, low] = record_from(*word);

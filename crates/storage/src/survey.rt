@@ -1,18 +1,33 @@
 // A look at an image: how much of it is protected, and where its parity is first wrong.
-ghost use Rattle.std.specs.Prelude.{◌≡◌, length};
-ghost use Rattle.storage.specs.Survey.{surveying, core_after, buffer_after};
+ghost use Rattle.std.specs.Prelude.{◌≡◌, length, Some};
+ghost use Rattle.storage.specs.Survey.{surveying, core_after, buffer_after, survey_text};
 
 use crate::image::{decode, encode, fits};
 use crate::memory::{count_protected, first_wrong_parity};
 use refusal::Refusal;
+use std::fmt;
 
-#[derive(Clone, Copy, PartialEq, Eq, Debug)]
+#[derive(Clone, Copy, PartialEq, Eq, Hash, Debug)]
 pub struct Survey {
     pub words: usize,
     // how many words have the protect bit on
     pub protected: usize,
     // the address of the first word of wrong parity
     pub first_wrong: Option<usize>,
+}
+
+// Three lines, with no end of the last.
+impl fmt::Display for Survey {
+    ghost output = { λ s. Some (survey_text s) };
+
+    fn fmt<W: fmt::Write>(&self, f: &mut fmt::Formatter<W>) -> fmt::Result {
+        writeln!(f, "words {}", self.words)?;
+        writeln!(f, "protected {}", self.protected)?;
+        match self.first_wrong {
+            Some(address) => write!(f, "first wrong parity {address:04X}"),
+            None => write!(f, "first wrong parity none"),
+        }
+    }
 }
 
 // Decodes the image into the core, looks at the core, and encodes it again into the buffer, where the same file comes back.

@@ -1,5 +1,5 @@
 -- What a scanner or a recorder is given: its area and its gap.
-use Rattle.std.specs.Prelude.{ℕ, Bool, cond, ◌&&◌, Ok, Err, Result, nat_lt}
+use Rattle.std.specs.Prelude.{ℕ, Bool, cond, ◌&&◌, Some, None, Ok, Err, Option, Result, nat_lt}
 use Rattle.refusal.specs.declared.Refusal.{Refusal}
 use Rattle.refusal.specs.declared.Refusal.TheVariants.{Area, Gap}
 use Rattle.terminal.specs.declared.setup.Setup.{Setup}
@@ -14,6 +14,6 @@ gap_fits gap = nat_lt 0 gap && nat_lt gap 256
 abbrev pub checked : Setup → Result (Unit {0}) Refusal
 checked s = cond (area_fits s.area) (cond (gap_fits s.gap) (Ok tt) (Err Gap)) (Err Area)
 
--- the area of what is made: 0, which is none, where the check refuses
-abbrev pub area_made : Setup → ℕ
-area_made s = cond (area_fits s.area && gap_fits s.gap) s.area 0
+-- the area of what is made: none where the check refuses
+abbrev pub area_made : Setup → Option ℕ
+area_made s = cond (area_fits s.area && gap_fits s.gap) (Some s.area) None

@@ -1,9 +1,10 @@
 -- A terminal: what a scanner and a recorder have in common. It has an area, a gap, whether it operates, a wait in cycles, and
 -- an interrupt line. These are the first five numbers of control; what comes behind them is the make's own.
-use Rattle.std.specs.Prelude.{ℕ, ◌+◌, ◌-◌, ◌*◌, Bool, true, false, cond, ◌&&◌, List, ◌∷◌, Option, ◌==◌, slice_index, slice_set}
+use Rattle.std.specs.Prelude.{◌≡◌, ℕ, ◌+◌, ◌<◌, ◌-◌, ◌*◌, Bool, true, false, cond, ◌&&◌, List, ◌∷◌, None, Some, Option, ◌==◌, slice_index, slice_set}
 use Rattle.device.specs.declared.answer.Asking.{Asking}
 use Rattle.device.specs.declared.answer.Asking.TheVariants.{Nothing}
 use Rattle.device.specs.Meaning.{Meaning, ChannelMeaning}
+use Rattle.device.specs.Calls.{how_many}
 use Rattle.terminal.specs.declared.state.Terminal.{Terminal}
 use Rattle.terminal.specs.declared.setup.Setup.{Setup}
 use Rattle.terminal.specs.Setups.{area_fits, area_made}
@@ -11,16 +12,17 @@ use Rattle.terminal.specs.Setups.{area_fits, area_made}
 abbrev pub bit : Bool → ℕ
 bit b = cond b 1 0
 
-abbrev pub in_front : Terminal → List ℕ → List ℕ
-in_front t rest = t.area ∷ (t.gap ∷ (bit t.operating ∷ (t.wait ∷ (bit t.line ∷ rest))))
+-- the number of an area in control: 0, which is no area, where there is none
+abbrev pub area_number : Option ℕ → ℕ
+area_number None = 0
+area_number (Some area) = area
 
--- a terminal as it is made: at rest, and of no area, which is 0, where the check refuses
+abbrev pub in_front : Terminal → List ℕ → List ℕ
+in_front t rest = area_number t.area ∷ (t.gap ∷ (bit t.operating ∷ (t.wait ∷ (bit t.line ∷ rest))))
+
+-- a terminal as it is made: at rest, and of no area where the check refuses
 abbrev pub made_terminal : Setup → Terminal
 made_terminal s = record { area = area_made s; gap = s.gap; operating = false; wait = 0; line = false }
-
--- the same terminal, with these of what changes
-abbrev pub turned : Terminal → Bool → ℕ → Bool → Terminal
-turned t operating wait line = record { area = t.area; gap = t.gap; operating = operating; wait = wait; line = line }
 
 -- the five numbers by their places
 abbrev pub area_of : List ℕ → ℕ
@@ -96,6 +98,16 @@ pub record Own : Type 0 where
   pub gone : List ℕ → List ℕ
   pub handed : List ℕ → ℕ → List ℕ
   pub wish : List ℕ → Asking
+
+-- What a terminal asks of what is a make's own: the count of words left stands behind the five numbers, a place is within them, and
+-- a word that goes or is handed over leaves the area, and changes that count by the word that is gone.
+pub record Apart (own : Own) : Type 0 where
+  pub left : (c : List ℕ) (k v : ℕ) → k < 5 → own.left (slice_set c k v) ≡ own.left c
+  pub within : (c : List ℕ) (p : ℕ) → own.place c ≡ Some p → p < own.left c
+  pub gone_area : (c : List ℕ) → area_of (own.gone c) ≡ area_of c
+  pub gone_left : (c : List ℕ) → own.left (own.gone c) + how_many (own.place c) ≡ own.left c
+  pub handed_area : (c : List ℕ) (word : ℕ) → area_of (own.handed c word) ≡ area_of c
+  pub handed_left : (c : List ℕ) (word : ℕ) → own.left (own.handed c word) ≡ own.left c
 
 abbrev pub terminal_channel : Own → ChannelMeaning
 terminal_channel own = record {

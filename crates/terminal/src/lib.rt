@@ -3,4 +3,6 @@
 
 pub mod setup;
 pub mod state;
+pub mod station;
+pub mod work;
 mod working;

@@ -1,8 +1,8 @@
 // What a scanner and a recorder have in common.
-#[derive(Clone, Copy)]
+#[derive(Clone, Copy, PartialEq, Eq, Debug, Default)]
 pub struct Terminal {
-    // 0 where it answers to no area
-    pub area: u32,
+    // None where it answers to no area
+    pub area: Option<u32>,
     pub gap: u32,
     pub operating: bool,
     pub wait: u32,

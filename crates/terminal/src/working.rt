@@ -3,18 +3,19 @@ ghost use Rattle.std.specs.Prelude.{◌≡◌, ℕ, ◌-◌, ◌%◌, true, fals
 ghost use Rattle.device.specs.declared.answer.DeviceFault.TheVariants.{Busy};
 ghost use Rattle.device.specs.Calls.{when_accepted};
 ghost use Rattle.terminal.specs.Setups.{checked, area_fits as area_may_be};
-ghost use Rattle.terminal.specs.Terminals.{is_own, status as status_is, made_terminal, turned, in_front, obeyed};
+ghost use Rattle.terminal.specs.Terminals.{is_own, area_number, status as status_is, made_terminal, in_front, obeyed};
 
 use crate::setup::Setup;
 use crate::state::Terminal;
 use device::answer::DeviceFault;
 use device::function::CONTROL;
+use device::table::TableEnd;
 use refusal::Refusal;
 
 fn area_fits(area: u32) -> bool
     ensures { result ≡ area_may_be area }
 {
-    0 < area && area < 32
+    (1..32).contains(&area)
 }
 
 impl Setup {
@@ -25,7 +26,7 @@ impl Setup {
         if !area_fits(self.area) {
             return Err(Refusal::Area);
         }
-        if self.gap < 1 || self.gap > 255 {
+        if !(1..256).contains(&self.gap) {
             return Err(Refusal::Gap);
         }
         Ok(())
@@ -33,15 +34,13 @@ impl Setup {
 }
 
 // Not operating, no wait, line off.
-fn at_rest(area: u32, gap: u32) -> Terminal
+fn at_rest(area: Option<u32>, gap: u32) -> Terminal
     ensures { result ≡ record { area = area; gap = gap; operating = false; wait = 0; line = false } }
 {
     Terminal {
         area,
         gap,
-        operating: false,
-        wait: 0,
-        line: false,
+        ..Terminal::default()
     }
 }
 
@@ -50,19 +49,16 @@ impl Terminal {
     pub fn new(setup: &Setup) -> Terminal
         ensures { result ≡ made_terminal setup.now }
     {
-        let area = match setup.check() {
-            Ok(()) => setup.area,
-            Err(_) => 0,
-        };
+        let area = setup.check().ok().map(|()| setup.area);
         at_rest(area, setup.gap)
     }
 
-    // The five numbers of control.
+    // The five numbers of control. A method, since a `From` for five numbers would not say which five.
     pub fn numbers(&self) -> [usize; 5]
         ensures { result ≡ in_front self.now [] }
     {
         [
-            self.area as usize,
+            self.area.unwrap_or(0) as usize,
             self.gap as usize,
             usize::from(self.operating),
             self.wait as usize,
@@ -71,9 +67,9 @@ impl Terminal {
     }
 
     pub fn answers_to(&self, area: u32) -> bool
-        ensures { result ≡ is_own self.now.area area }
+        ensures { result ≡ is_own (area_number self.now.area) area }
     {
-        area_fits(area) && area == self.area
+        area_fits(area) && self.area == Some(area)
     }
 
     // A function that the device takes, of which `start` starts it and Control stops it. Busy while it operates, but for
@@ -103,8 +99,8 @@ impl Terminal {
 
     // The status, after which an odd modifier turns the line off; 0 for another area.
     pub fn sense(&mut self, area: u32, modifier: u32) -> u16
-        ensures answer { result ≡ (if is_own self.old.area area then status_is self.old.line self.old.operating else 0) }
-        ensures after { self.new ≡ turned self.old self.old.operating self.old.wait (if is_own self.old.area area && modifier % 2 == 1 then false else self.old.line) }
+        ensures answer { result ≡ (if is_own (area_number self.old.area) area then status_is self.old.line self.old.operating else 0) }
+        ensures after { self.new ≡ record self.old { line = if is_own (area_number self.old.area) area && modifier % 2 == 1 then false else self.old.line } }
     {
         if !self.answers_to(area) {
             return 0;
@@ -117,13 +113,13 @@ impl Terminal {
     }
 
     pub fn pass(&mut self)
-        ensures { self.new ≡ turned self.old self.old.operating (self.old.wait - 1) self.old.line }
+        ensures { self.new ≡ record self.old { wait = self.old.wait - 1 } }
     {
         self.wait = self.wait.saturating_sub(1);
     }
 
     pub fn reset(&mut self)
-        ensures { self.new ≡ turned self.old false 0 false }
+        ensures { self.new ≡ record self.old { operating = false; wait = 0; line = false } }
     {
         *self = at_rest(self.area, self.gap);
     }
@@ -136,20 +132,16 @@ impl Terminal {
     }
 
     pub fn wait_for_gap(&mut self)
-        ensures { self.new ≡ turned self.old self.old.operating self.old.gap self.old.line }
+        ensures { self.new ≡ record self.old { wait = self.old.gap } }
     {
         self.wait = self.gap;
     }
 
     // A table's end.
-    pub fn finish(&mut self, go_on: bool, tell: bool)
-        ensures { self.new ≡ turned self.old (self.old.operating && go_on) self.old.wait (self.old.line || tell) }
+    pub fn finish(&mut self, end: TableEnd)
+        ensures { self.new ≡ record self.old { operating = self.old.operating && end.go_on; line = self.old.line || end.tell } }
     {
-        if !go_on {
-            self.operating = false;
-        }
-        if tell {
-            self.line = true;
-        }
+        self.operating &= end.go_on;
+        self.line |= end.tell;
     }
 }

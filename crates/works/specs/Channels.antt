@@ -13,5 +13,5 @@ asks_word Take = true
 abbrev pub wishes : Channel → Asking → Bool
 wishes Idle a = false
 wishes (Head address) a = true
-wishes (Data address count go_on tell) a = asks_word a
+wishes (Data address count end) a = asks_word a
 wishes (NextHead address) a = true

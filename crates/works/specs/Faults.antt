@@ -37,7 +37,3 @@ by_channel (Err e) = Err (Refused e)
 abbrev pub recorded : ℕ → ℕ → ℕ → Result (Unit {0}) ChannelFault → Result (Unit {0}) Fault
 recorded address by kind (Ok u) = Ok u
 recorded address by kind (Err e) = Err (placed address by kind (bare e))
-
-abbrev pub bared : Result (Unit {0}) ChannelFault → Result (Unit {0}) Fault
-bared (Ok u) = Ok u
-bared (Err e) = Err (bare e)

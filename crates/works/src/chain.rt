@@ -2,10 +2,11 @@
 ghost use Rattle.std.specs.Prelude.{◌≡◌};
 ghost use Rattle.works.specs.declared.fault.ChannelFault.TheVariants.{Refused as the_refused};
 ghost use Rattle.device.specs.Calls.{command_answer, command_control};
-ghost use Rattle.works.specs.Faults.{channel_number as the_channel_number, cause_number, bare, bared, placed as the_placed, by_channel, recorded};
+ghost use Rattle.works.specs.Faults.{channel_number as the_channel_number, cause_number, bare, placed as the_placed, by_channel, recorded};
 
 use crate::fault::{Cause, ChannelFault, Fault};
 use device::answer::DeviceFault;
+use device::control::ControlWord;
 use device::interface::Device;
 
 impl ChannelFault {
@@ -41,10 +42,10 @@ impl Fault {
         ensures { result ≡ the_placed address by kind self }
     {
         Fault {
-            cause: self.cause,
             address,
             by,
             kind,
+            ..self
         }
     }
 }
@@ -71,49 +72,26 @@ impl From<ChannelFault> for Fault {
 }
 
 // A command through a device's channel.
-pub fn channel_command<D: Device>(
-    device: &mut D,
-    area: u32,
-    function: u32,
-    modifier: u32,
-) -> Result<(), ChannelFault>
-    ensures answer { result ≡ by_channel (command_answer D.Device.means (D.Device.control device.old) area function) }
-    ensures control { D.Device.control device.new ≡ command_control D.Device.means (D.Device.control device.old) area function modifier }
+pub fn channel_command<D: Device>(device: &mut D, order: ControlWord) -> Result<(), ChannelFault>
+    ensures answer { result ≡ by_channel (command_answer D.Device.means (D.Device.control device.old) order.area order.function) }
+    ensures control { D.Device.control device.new ≡ command_control D.Device.means (D.Device.control device.old) order.area order.function order.modifier }
     ensures words { D.Device.words device.new ≡ D.Device.words device.old }
 {
-    device.command(area, function, modifier)?;
-    Ok(())
-}
-
-fn bare_command<D: Device>(
-    device: &mut D,
-    area: u32,
-    function: u32,
-    modifier: u32,
-) -> Result<(), Fault>
-    ensures answer { result ≡ bared (by_channel (command_answer D.Device.means (D.Device.control device.old) area function)) }
-    ensures control { D.Device.control device.new ≡ command_control D.Device.means (D.Device.control device.old) area function modifier }
-    ensures words { D.Device.words device.new ≡ D.Device.words device.old }
-{
-    channel_command(device, area, function, modifier)?;
+    device.command(order)?;
     Ok(())
 }
 
 // A command as the controller gives it, with its own record of a refusal: the address, and the device by position and kind.
 pub fn command<D: Device>(
     device: &mut D,
-    area: u32,
-    function: u32,
-    modifier: u32,
+    order: ControlWord,
     address: u16,
     by: u32,
 ) -> Result<(), Fault>
-    ensures answer { result ≡ recorded address by D.Device.means.kind (by_channel (command_answer D.Device.means (D.Device.control device.old) area function)) }
-    ensures control { D.Device.control device.new ≡ command_control D.Device.means (D.Device.control device.old) area function modifier }
+    ensures answer { result ≡ recorded address by D.Device.means.kind (by_channel (command_answer D.Device.means (D.Device.control device.old) order.area order.function)) }
+    ensures control { D.Device.control device.new ≡ command_control D.Device.means (D.Device.control device.old) order.area order.function order.modifier }
     ensures words { D.Device.words device.new ≡ D.Device.words device.old }
 {
-    match bare_command(device, area, function, modifier) {
-        Ok(()) => Ok(()),
-        Err(fault) => Err(fault.placed(address, by, device.kind())),
-    }
+    let kind = device.kind();
+    channel_command(device, order).map_err(|fault| Fault::from(fault).placed(address, by, kind))
 }

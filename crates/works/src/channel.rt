@@ -1,6 +1,10 @@
+// The channels' records.
+use device::table::TableEnd;
+
 // Where a channel stands in its table.
-#[derive(Clone, Copy)]
+#[derive(Clone, Copy, PartialEq, Eq, Debug, Default)]
 pub enum Channel {
+    #[default]
     Idle,
     // at a table's head
     Head {
@@ -10,8 +14,7 @@ pub enum Channel {
     Data {
         address: u16,
         count: u16,
-        go_on: bool,
-        tell: bool,
+        end: TableEnd,
     },
     // at the word that names the next head
     NextHead {
@@ -20,7 +23,7 @@ pub enum Channel {
 }
 
 // A channel as a requester.
-#[derive(Clone, Copy)]
+#[derive(Clone, Copy, PartialEq, Eq, Debug)]
 pub struct ChannelWish {
     pub channel: usize,
     pub wish: bool,

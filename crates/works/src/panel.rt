@@ -1,5 +1,5 @@
 // The console's switches, the run state, and the counts of cycles.
-#[derive(Clone, Copy)]
+#[derive(Clone, Copy, PartialEq, Eq, Debug, Default)]
 pub struct Switches {
     // the data entry switches
     pub data: u16,
@@ -10,15 +10,16 @@ pub struct Switches {
     pub write_protect: bool,
 }
 
-#[derive(Clone, Copy)]
+#[derive(Clone, Copy, PartialEq, Eq, Debug, Default)]
 pub enum RunState {
+    #[default]
     Stopped,
     Running,
     Waiting,
 }
 
 // Cycles so far, since they were last set to 0. Their sum is how many each device was told of.
-#[derive(Clone, Copy)]
+#[derive(Clone, Copy, PartialEq, Eq, Debug, Default)]
 pub struct Counts {
     pub program: u64,
     pub stolen: u64,

@@ -1,19 +1,10 @@
 // What a channel wishes, and the channels as requesters.
 ghost use Rattle.std.specs.Prelude.{◌≡◌};
-ghost use Rattle.works.specs.Channels.{wishes as the_wish, asks_word};
+ghost use Rattle.works.specs.Channels.{wishes as the_wish};
 
 use crate::channel::{Channel, ChannelWish};
 use device::answer::Asking;
 use levels::choice::Requester;
-
-fn asks_word(asking: Asking) -> bool
-    ensures { result ≡ asks_word asking }
-{
-    match asking {
-        Asking::Nothing => false,
-        Asking::Bring | Asking::Take => true,
-    }
-}
 
 impl Channel {
     // Whether it wishes a cycle, where its device asks for this.
@@ -22,17 +13,14 @@ impl Channel {
     {
         match *self {
             Channel::Idle => false,
-            Channel::Head { address: _ } | Channel::NextHead { address: _ } => true,
-            Channel::Data {
-                address: _,
-                count: _,
-                go_on: _,
-                tell: _,
-            } => asks_word(asking),
+            Channel::Head { .. } | Channel::NextHead { .. } => true,
+            Channel::Data { .. } => asking != Asking::Nothing,
         }
     }
 }
 
+// Level records and channel records are two kinds of requester, and one function over a lent slice of either chooses among them: so
+// this record is one that implements the trait.
 impl Requester for ChannelWish {
     ghost place = { λ w. w.channel };
 

@@ -1,42 +1,25 @@
-use Rattle.std.proofs.Common.{◌≡◌, ℕ, ◌<◌, true, false, List, ◌++◌, length, Some, sym, ap, ◌∙◌, arith}
-use Rattle.device.specs.Calls.{get_place}
-use Rattle.pair.specs.Pairs.{joined}
-use Rattle.pair.proofs.Places.{got_first, got_second, get_first, get_second, word_first, words_first, word_second, words_second}
+use Rattle.std.proofs.Common.{ℕ, List, ◌++◌, sym, ap, ◌∙◌}
+use Rattle.pair.proofs.Places.{got_word, got_words, got_second, word_second}
 use Rattle.pair.proofs.PairDevice.get.Goals as goal
 
-pub returns-then-area_to_first : goal.returns-then-area_to_first
-returns-then-area_to_first g c =
-    let a = g.A.Device.means in
-    let b = g.B.Device.means in
+pub returns-then-area_to_first-clause-answer : goal.returns-then-area_to_first-clause-answer
+returns-then-area_to_first-clause-answer g c =
     let one = c.args.self.now.first in
     let two = c.args.self.now.second in
-    let x = g.A.Device.control one in
-    let y = g.B.Device.control two in
-    let v = g.A.Device.words one in
-    let w = g.B.Device.words two in
-    let e : a.answers x c.args.area ≡ true = sym c.if-area_to_first.ensures.value in
-    let n = g.A.Device.numbered one in
-    let f : (p : ℕ) → get_place a x c.args.area ≡ Some p → p < length v = λ p h. omega (arith, g.A.Device.lawful.within x c.args.area p h) in
-    record {
-      answer = c.get.ensures.answer ∙ word_first v w _ _ (got_first a b x y c.args.area e) f;
-      control = ap (λ (z : List ℕ). joined z y) c.get.ensures.control ∙ sym (get_first a b x y c.args.area e);
-      words = ap (λ (z : List ℕ). z ++ w) c.get.ensures.words ∙ words_first v w _ _ (got_first a b x y c.args.area e) f;
-    }
+    c.get.ensures.answer
+    ∙ got_word _ g.B.Device.means g.A.Device.lawful _ (g.B.Device.control two) _ (g.B.Device.words two) (g.A.Device.numbered one) c.args.area (sym c.if-area_to_first.ensures)
 
-pub returns-else-area_to_first : goal.returns-else-area_to_first
-returns-else-area_to_first g c =
-    let a = g.A.Device.means in
-    let b = g.B.Device.means in
+pub returns-then-area_to_first-clause-words : goal.returns-then-area_to_first-clause-words
+returns-then-area_to_first-clause-words g c =
     let one = c.args.self.now.first in
     let two = c.args.self.now.second in
-    let x = g.A.Device.control one in
-    let y = g.B.Device.control two in
-    let v = g.A.Device.words one in
-    let w = g.B.Device.words two in
-    let e : a.answers x c.args.area ≡ false = sym c.if-area_to_first.ensures.value in
-    let n = g.A.Device.numbered one in
-    record {
-      answer = c.get-else-area_to_first.ensures.answer ∙ word_second v w _ _ (a.left x) n (got_second a b x y c.args.area e);
-      control = ap (λ (z : List ℕ). joined x z) c.get-else-area_to_first.ensures.control ∙ sym (get_second a b x y c.args.area e);
-      words = ap (λ (z : List ℕ). v ++ z) c.get-else-area_to_first.ensures.words ∙ words_second v w _ _ (a.left x) n (got_second a b x y c.args.area e);
-    }
+    ap (λ (z : List ℕ). z ++ g.B.Device.words two) c.get.ensures.words
+    ∙ got_words _ g.B.Device.means g.A.Device.lawful _ (g.B.Device.control two) _ (g.B.Device.words two) (g.A.Device.numbered one) c.args.area (sym c.if-area_to_first.ensures)
+
+pub returns-else-area_to_first-clause-answer : goal.returns-else-area_to_first-clause-answer
+returns-else-area_to_first-clause-answer g c =
+    let one = c.args.self.now.first in
+    let two = c.args.self.now.second in
+    c.get-else-area_to_first.ensures.answer
+    ∙ word_second (g.A.Device.words one) (g.B.Device.words two) _ _ _ (g.A.Device.numbered one)
+    (got_second g.A.Device.means g.B.Device.means (g.A.Device.control one) (g.B.Device.control two) c.args.area (sym c.if-area_to_first.ensures))

@@ -1,5 +1,5 @@
-use Rattle.std.proofs.Common.{◌≡◌, ℕ, true, length, sym, ap, ◌∙◌, arith, length-set}
-use Rattle.std.proofs.lemmas.List.{take_all}
+use Rattle.std.proofs.Common.{◌≡◌, true, length, arith, length-set}
+use Rattle.std.proofs.lemmas.Grind.{common_steps}
 use Rattle.storage.specs.Image.{bytes_of, fits}
 use Rattle.storage.proofs.Records.{image_turn, same_words}
 use Rattle.storage.proofs.image.encode.Goals as goal
@@ -10,13 +10,10 @@ loop-address-preserved c = (
   simp length-set c.loop-address.invariant.1,
 )
 
-pub returns : goal.returns
-returns c =
+pub returns-clause-same_words : goal.returns-clause-same_words
+returns-clause-same_words c =
     let core = c.args.core.now in
     let image = c.loop-address.image in
-    let i = c.loop-address.address in
-    let f = sym c.if-not-fits.ensures in
-    let n = c.loop-address.invariant.1 in
-    let e : image ≡ bytes_of core = sym (take_all _ image (omega arith)) ∙ c.loop-address.invariant.0 ∙ ap bytes_of (take_all i core (omega arith)) in
-    let g : fits (length core) (length image) ≡ true = ap (λ (k : ℕ). fits (length core) k) c.loop-address.auto.image ∙ f in
-    record { answer = rw f; image = e; same_words = same_words core image _ g e }
+    let f : fits (length core) (length image) ≡ true = grind (arith, common_steps) in
+    let e : image ≡ bytes_of core = grind (arith, common_steps) in
+    same_words core image _ f e

@@ -1,4 +1,4 @@
-use Rattle.std.proofs.Common.{ℕ, length, sym, ◌∙◌, ap₂, arith}
+use Rattle.std.proofs.Common.{ℕ, length, sym, ◌∙◌, ap₂}
 use Rattle.registers.specs.declared.state.Registers.{Registers}
 use Rattle.levels.specs.declared.state.Service.{Service}
 use Rattle.works.specs.declared.panel.RunState.TheVariants.{Running}
@@ -9,9 +9,9 @@ use Rattle.engine.specs.Interrupt.{forced_branch}
 use Rattle.engine.specs.Code.{view, makes}
 use Rattle.engine.proofs.engine.Engine.forced_branch.Goals as goal
 
-pub returns : goal.returns
+pub returns-clause-goes : goal.returns-clause-goes
 unfolding forced_branch
-returns g c =
+returns-clause-goes g c =
     let m = makes g.A.Device g.B.Device g.C.Device g.D.Device in
     let v = view g.A.Device g.B.Device g.C.Device g.D.Device in
     let u = c.args.core.now in
@@ -21,12 +21,7 @@ returns g c =
     let t = v x c.read-word.new.core in
     let w = c.read-word.result in
     let after = λ (z : Service). work (λ k. with_run Running (with_service z k)) s in
-    record {
-      goes = ap₂ (λ (z : Service) (a : ℕ). (perform m (read a (λ (y : ℕ). branch_store (length u) y p.works.registers)) (after z)).machine) (sym c.begin.ensures) (sym c.vector.ensures)
-          ∙ c.read-word.ensures.goes (λ (y : ℕ). branch_store (length u) y p.works.registers)
-          ∙ ap₂ (λ (n : ℕ) (r : Registers). (perform m (branch_store n w r) t).machine) (sym c.read-word.ensures.long) (sym c.read-word.ensures.keeps.registers)
-          ∙ c.link.ensures.goes;
-      long = c.link.ensures.long ∙ c.read-word.ensures.long;
-      books = c.link.ensures.books ∙ c.read-word.ensures.keeps.books;
-      grows = let a = c.link.ensures.grows in let b = c.read-word.ensures.keeps.grows in omega arith;
-    }
+    ap₂ (λ (z : Service) (a : ℕ). (perform m (read a (λ (y : ℕ). branch_store (length u) y p.works.registers)) (after z)).machine) (sym c.begin.ensures) (sym c.vector.ensures)
+    ∙ c.read-word.ensures.goes (λ (y : ℕ). branch_store (length u) y p.works.registers)
+    ∙ ap₂ (λ (n : ℕ) (r : Registers). (perform m (branch_store n w r) t).machine) (sym c.read-word.auto.core) (sym c.read-word.ensures.keeps.registers)
+    ∙ c.link.ensures.goes

@@ -1,4 +1,4 @@
-use Rattle.std.proofs.Common.{ℕ, ◌%◌, length, sym, refl, ap, ◌∙◌, arith}
+use Rattle.std.proofs.Common.{ℕ, ◌%◌, length, sym, refl, ap, ◌∙◌}
 use Rattle.registers.specs.declared.state.Registers.{Registers}
 use Rattle.instruction.specs.Decoding.{decoded}
 use Rattle.engine.specs.Plan.{perform}
@@ -7,9 +7,9 @@ use Rattle.engine.specs.Code.{view, makes}
 use Rattle.engine.proofs.Going.{by_length}
 use Rattle.engine.proofs.engine.Engine.instruction.Goals as goal
 
-pub returns : goal.returns
+pub returns-clause-goes : goal.returns-clause-goes
 unfolding instruction
-returns g c =
+returns-clause-goes g c =
     let m = makes g.A.Device g.B.Device g.C.Device g.D.Device in
     let v = view g.A.Device g.B.Device g.C.Device g.D.Device in
     let u = c.args.core.now in
@@ -18,13 +18,8 @@ returns g c =
     let t = v x c.second-word.new.core in
     let w = c.second-word.result in
     let r = x.processor.works.registers in
-    let at = by_length (λ (n : ℕ). p.works.registers.i % n) c.place-at.result p p u c.requires.fits refl c.place-at.ensures.is in
-    record {
-      goes = c.second-word.ensures.goes (λ (y : ℕ) (z : Registers). executed m (length u) (p.works.registers.i % length u) (decoded y) y z)
-          ∙ ap (λ (y : ℕ). (perform m (executed m (length u) y (decoded w) w r) t).machine) (sym at)
-          ∙ ap (λ (y : ℕ). (perform m (executed m y c.place-at.result (decoded w) w r) t).machine) (sym c.second-word.ensures.long)
-          ∙ c.execute.ensures.goes;
-      long = c.execute.ensures.long ∙ c.second-word.ensures.long;
-      books = c.execute.ensures.books ∙ c.second-word.ensures.books;
-      grows = let a = c.execute.ensures.grows in let b = c.second-word.ensures.grows in omega arith;
-    }
+    let at = by_length (λ (n : ℕ). p.works.registers.i % n) c.place-at.result p p u c.requires.room.fits refl c.place-at.ensures.is in
+    c.second-word.ensures.goes (λ (y : ℕ) (z : Registers). executed m (length u) (p.works.registers.i % length u) (decoded y) y z)
+    ∙ ap (λ (y : ℕ). (perform m (executed m (length u) y (decoded w) w r) t).machine) (sym at)
+    ∙ ap (λ (y : ℕ). (perform m (executed m y c.place-at.result (decoded w) w r) t).machine) (sym c.second-word.auto.core)
+    ∙ c.execute.ensures.goes

@@ -1,11 +1,12 @@
-use Rattle.std.proofs.Common.{◌≡◌, ℕ, cond, length, ap, arith}
+use Rattle.std.proofs.Common.{◌≡◌, ℕ, cond, length, ap}
 use Rattle.engine.specs.Instructions.{advanced}
 use Rattle.engine.specs.Code.{view, makes}
 use Rattle.engine.proofs.Going.{by_length, memory_goes}
 use Rattle.engine.proofs.engine.Engine.modify_word.Goals as goal
 
-pub returns : goal.returns
-returns g c =
+pub returns-clause-goes : goal.returns-clause-goes
+returns-clause-goes g c =
+    let v = view g.A.Device g.B.Device g.C.Device g.D.Device in
     let u = c.args.core.now in
     let p = c.args.self.now.processor in
     let x = c.store.new.self.processor in
@@ -13,16 +14,11 @@ returns g c =
     let t = c.skip_if.new.registers in
     let modified = c.modify-modified.result in
     let books : x.books ≡ p.books = cc in
-    let e = by_length (λ (n : ℕ). cond modified.skip (advanced n 1 r) r) t p x u c.requires.fits books c.skip_if.ensures in
-    record {
-      goes = memory_goes (makes g.A.Device g.B.Device g.C.Device g.D.Device) (length u) c.args.fields.now p.works.registers c.second-address.new.self.processor.works.registers
-          c.second-address.result c.read-old.result modified.word modified.skip
-          (view g.A.Device g.B.Device g.C.Device g.D.Device c.args.self.now c.args.core.now)
-          (view g.A.Device g.B.Device g.C.Device g.D.Device c.second-address.new.self c.second-address.new.core)
-          (view g.A.Device g.B.Device g.C.Device g.D.Device c.read-old.new.self c.read-old.new.core)
-          (view g.A.Device g.B.Device g.C.Device g.D.Device c.store.new.self c.store.new.core)
-          t c.second-address.ensures.goes c.read-old.ensures.goes (ap (λ x. x.word) c.modify-modified.ensures) (ap (λ x. x.skip) c.modify-modified.ensures) c.store.ensures.goes e;
-      long = cc;
-      books = books;
-      grows = omega arith;
-    }
+    let e = by_length (λ (n : ℕ). cond modified.skip (advanced n 1 r) r) t p x u c.requires.room.fits books c.skip_if.ensures in
+    memory_goes (makes g.A.Device g.B.Device g.C.Device g.D.Device) (length u) c.args.fields.now p.works.registers c.second-address.new.self.processor.works.registers
+    c.second-address.result c.read-old.result modified.word modified.skip
+    (v c.args.self.now c.args.core.now)
+    (v c.second-address.new.self c.second-address.new.core)
+    (v c.read-old.new.self c.read-old.new.core)
+    (v c.store.new.self c.store.new.core)
+    t c.second-address.ensures.goes c.read-old.ensures.goes (ap (λ x. x.word) c.modify-modified.ensures) (ap (λ x. x.skip) c.modify-modified.ensures) c.store.ensures.goes e

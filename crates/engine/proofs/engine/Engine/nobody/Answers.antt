@@ -1,18 +1,14 @@
-use Rattle.std.proofs.Common.{sym, ap, ◌∙◌, arith}
+use Rattle.std.proofs.Common.{sym, ap, ◌∙◌}
 use Rattle.works.specs.declared.fault.Fault.{Fault}
 use Rattle.engine.specs.declared.state.Processor.{Processor}
 use Rattle.engine.specs.Machine.{with_processor}
 use Rattle.engine.specs.Faults.{faulted, raise}
-use Rattle.engine.specs.Code.{view, spent}
+use Rattle.engine.specs.Code.{view}
 use Rattle.engine.proofs.engine.Engine.nobody.Goals as goal
 
-pub returns : goal.returns
+pub returns-clause-goes : goal.returns-clause-goes
 unfolding raise
-returns g c =
+returns-clause-goes g c =
     let p = c.args.self.now.processor in
     let e = c.raise.ensures in
-    record {
-      goes = λ u. sym (ap (λ (q : Processor). with_processor q (view g.A.Device g.B.Device g.C.Device g.D.Device c.args.self.now u)) (e ∙ ap (λ (f : Fault). faulted f p) c.fault.ensures));
-      books = ap (λ (q : Processor). q.books) e;
-      grows = let z = ap spent e in omega arith;
-    }
+    λ u. sym (ap (λ (q : Processor). with_processor q (view g.A.Device g.B.Device g.C.Device g.D.Device c.args.self.now u)) (e ∙ ap (λ (f : Fault). faulted f p) c.fault.ensures))

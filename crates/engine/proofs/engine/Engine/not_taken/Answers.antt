@@ -1,4 +1,4 @@
-use Rattle.std.proofs.Common.{ℕ, sym, ap, ◌∙◌, arith}
+use Rattle.std.proofs.Common.{ℕ, sym, ap, ◌∙◌}
 use Rattle.device.specs.declared.answer.DeviceFault.TheVariants.{NotTaken}
 use Rattle.works.specs.declared.fault.Cause.TheVariants.{Channel}
 use Rattle.works.specs.declared.fault.ChannelFault.TheVariants.{Refused}
@@ -7,17 +7,13 @@ use Rattle.engine.specs.declared.place.By.TheVariants.{Device}
 use Rattle.engine.specs.declared.state.Processor.{Processor}
 use Rattle.engine.specs.Machine.{with_processor}
 use Rattle.engine.specs.Faults.{fault_of, faulted, raise}
-use Rattle.engine.specs.Code.{view, spent}
+use Rattle.engine.specs.Code.{view}
 use Rattle.engine.proofs.engine.Engine.not_taken.Goals as goal
 
-pub returns : goal.returns
+pub returns-clause-goes : goal.returns-clause-goes
 unfolding raise
-returns g c =
+returns-clause-goes g c =
     let p = c.args.self.now.processor in
     let e = c.raise.ensures in
-    record {
-      goes = λ u. sym (ap (λ (q : Processor). with_processor q (view g.A.Device g.B.Device g.C.Device g.D.Device c.args.self.now u))
-          (e ∙ ap (λ (f : Fault). faulted f p) (c.fault.ensures ∙ ap (λ (k : ℕ). fault_of (Device c.args.position k) (Channel (Refused NotTaken)) c.args.at) c.kind_of.ensures)));
-      books = ap (λ (q : Processor). q.books) e;
-      grows = let z = ap spent e in omega arith;
-    }
+    λ u. sym (ap (λ (q : Processor). with_processor q (view g.A.Device g.B.Device g.C.Device g.D.Device c.args.self.now u))
+    (e ∙ ap (λ (f : Fault). faulted f p) (c.fault.ensures ∙ ap (λ (k : ℕ). fault_of (Device c.args.position k) (Channel (Refused NotTaken)) c.args.at) c.kind_of.ensures)))

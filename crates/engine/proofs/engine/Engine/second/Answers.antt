@@ -6,19 +6,18 @@ use Rattle.engine.proofs.engine.Engine.second.Goals as goal
 
 pub returns : goal.returns
 returns g c =
+    let v = view g.A.Device g.B.Device g.C.Device g.D.Device in
     let u = c.args.core.now in
     let p = c.args.self.now.processor in
     let x = c.read-word.new.self in
     let t = c.advance.new.registers in
     let keeps = c.read-word.ensures.keeps in
-    let e = by_length (λ (n : ℕ). advanced n 1 x.processor.works.registers) t p x.processor u c.requires.fits keeps.books c.advance.ensures in
+    let e = by_length (λ (n : ℕ). advanced n 1 x.processor.works.registers) t p x.processor u c.requires.room.fits keeps.within.books c.advance.ensures in
     let moved = e ∙ ap (advanced (length u) 1) keeps.registers in
     record {
       goes = second_goes (makes g.A.Device g.B.Device g.C.Device g.D.Device) (length u) p.works.registers t c.read-word.result
-          (view g.A.Device g.B.Device g.C.Device g.D.Device c.args.self.now u)
-          (view g.A.Device g.B.Device g.C.Device g.D.Device x c.read-word.new.core) c.read-word.ensures.goes e moved;
+          (v c.args.self.now u)
+          (v x c.read-word.new.core) c.read-word.ensures.goes e moved;
       moved = moved;
-      long = c.read-word.ensures.long;
-      books = keeps.books;
-      grows = keeps.grows;
+      within = record { books = keeps.within.books; grows = keeps.within.grows };
     }

@@ -1,16 +1,12 @@
 use Rattle.std.proofs.Common.{◌∙◌}
 use Rattle.engine.specs.Code.{view, makes}
-use Rattle.engine.proofs.Cycling.{steal_by, keeps_stolen}
+use Rattle.engine.proofs.Cycling.{steal_by}
 use Rattle.engine.proofs.engine.Engine.steal.Goals as goal
 
-pub returns : goal.returns
-returns g c =
+pub returns-clause-after : goal.returns-clause-after
+returns-clause-after g c =
     let m = makes g.A.Device g.B.Device g.C.Device g.D.Device in
     let v = view g.A.Device g.B.Device g.C.Device g.D.Device in
     let s = v c.args.self.now c.args.core.now in
     let t = v c.serve.new.self c.serve.new.core in
-    record {
-      after = c.end_table.ensures.after c.serve.new.core ∙ steal_by m c.args.number s t (v c.tell.new.self c.serve.new.core) c.serve.ensures.after (c.tell.ensures.after c.serve.new.core);
-      long = c.serve.ensures.long;
-      keeps = keeps_stolen c.args.self.now.processor c.serve.new.self.processor c.tell.new.self.processor c.end_table.new.self.processor c.serve.ensures.keeps c.tell.ensures.processor c.end_table.ensures.keeps;
-    }
+    c.end_table.ensures.after c.serve.new.core ∙ steal_by m c.args.number s t (v c.tell.new.self c.serve.new.core) c.serve.ensures.after (c.tell.ensures.after c.serve.new.core)

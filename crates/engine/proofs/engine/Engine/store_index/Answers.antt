@@ -1,18 +1,15 @@
-use Rattle.std.proofs.Common.{length, None, arith}
+use Rattle.std.proofs.Common.{length, None}
 use Rattle.engine.specs.Instructions.{named}
 use Rattle.engine.specs.Code.{view, makes}
 use Rattle.engine.proofs.Going.{stored_goes}
 use Rattle.engine.proofs.engine.Engine.store_index.Goals as goal
 
-pub returns : goal.returns
-returns g c = record {
-  goes = λ w. stored_goes (makes g.A.Device g.B.Device g.C.Device g.D.Device) (length c.args.core.now) None c.args.fields.now (named c.args.fields.now.tag) c.args.self.now.processor.works.registers c.effective-address.new.self.processor.works.registers
-      c.effective-address.result c.named-value.result
-      (view g.A.Device g.B.Device g.C.Device g.D.Device c.args.self.now c.args.core.now)
-      (view g.A.Device g.B.Device g.C.Device g.D.Device c.effective-address.new.self c.effective-address.new.core)
-      (view g.A.Device g.B.Device g.C.Device g.D.Device c.store.new.self c.store.new.core)
-      c.effective-address.ensures.goes c.named-value.ensures c.store.ensures.goes;
-  long = cc;
-  books = cc;
-  grows = omega arith;
-}
+pub returns-clause-goes : goal.returns-clause-goes
+returns-clause-goes g c =
+    let v = view g.A.Device g.B.Device g.C.Device g.D.Device in
+    λ w. stored_goes (makes g.A.Device g.B.Device g.C.Device g.D.Device) (length c.args.core.now) None c.args.fields.now (named c.args.fields.now.tag) c.args.self.now.processor.works.registers c.effective-address.new.self.processor.works.registers
+    c.effective-address.result c.named-value.result
+    (v c.args.self.now c.args.core.now)
+    (v c.effective-address.new.self c.effective-address.new.core)
+    (v c.store.new.self c.store.new.core)
+    c.effective-address.ensures.goes c.named-value.ensures c.store.ensures.goes

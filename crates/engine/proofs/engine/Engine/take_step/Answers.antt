@@ -1,4 +1,4 @@
-use Rattle.std.proofs.Common.{ap, ◌∙◌}
+use Rattle.std.proofs.Common.{ap, ◌∙◌, rules}
 use Rattle.engine.specs.declared.state.Processor.{Processor}
 use Rattle.engine.specs.Machine.{with_processor}
 use Rattle.engine.specs.Code.{view, makes}
@@ -12,6 +12,6 @@ returns g c =
     let s = v c.args.self.now c.args.core.now in
     let t = v c.act.new.self c.act.new.core in
     record {
-      after = ap (λ (q : Processor). with_processor q t) c.end_step.ensures ∙ step_by m s t c.empty_tally-self.result c.empty_tally-self.ensures c.act.ensures.goes;
+      after = ap (λ (q : Processor). with_processor q t) c.end_step.ensures ∙ step_by m s t c.default-self.result (search rules) c.act.ensures.goes;
       answer = c.report.ensures;
     }

@@ -5,6 +5,7 @@ use Rattle.engine.proofs.engine.Engine.value.Goals as goal
 
 pub returns : goal.returns
 returns g c =
+    let v = view g.A.Device g.B.Device g.C.Device g.D.Device in
     let u = c.args.core.now in
     let r = c.args.self.now.processor.works.registers in
     let x = c.second-address.new.self in
@@ -13,13 +14,11 @@ returns g c =
     record {
       goes = value_long (makes g.A.Device g.B.Device g.C.Device g.D.Device) (length u) c.args.fields.now r
           x.processor.works.registers y.processor.works.registers
-          (view g.A.Device g.B.Device g.C.Device g.D.Device c.args.self.now u)
-          (view g.A.Device g.B.Device g.C.Device g.D.Device x c.second-address.new.core)
-          (view g.A.Device g.B.Device g.C.Device g.D.Device y c.indirect.new.core)
+          (v c.args.self.now u)
+          (v x c.second-address.new.core)
+          (v y c.indirect.new.core)
           c.second-address.result c.indirect.result
           c.if-not-fields.false c.second-address.ensures.goes c.indirect.ensures.goes e;
       moved = only_i _ r y.processor.works.registers (e ∙ c.second-address.ensures.moved);
-      long = cc;
-      books = cc;
-      grows = omega arith;
+      within = record { books = cc; grows = omega arith };
     }

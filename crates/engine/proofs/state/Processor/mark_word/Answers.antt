@@ -1,4 +1,4 @@
-use Rattle.std.proofs.Common.{refl, ◌∙◌, length-set}
+use Rattle.std.proofs.Common.{refl, ◌∙◌}
 use Rattle.engine.proofs.Referring.{same_place, mark_on, mark_off}
 use Rattle.engine.proofs.state.Processor.mark_word.Goals as goal
 
@@ -9,13 +9,11 @@ returns-then-self c =
     let at = c.from.ensures ∙ same_place p u c.args.address c.place.result c.requires.fits c.place.ensures.is in
     record {
       after = λ by. mark_on by c.args.address c.from.result c.args.on c.args.value c.word_of.result p u at c.ranges.value.fits c.if-self.true c.word_of.ensures.value;
-      long = length-set u c.from.result c.word_of.result;
       same = refl;
     }
 
 pub returns-else-self : goal.returns-else-self
 returns-else-self c = record {
   after = λ by. mark_off by c.args.address c.args.on c.args.value c.args.self.now c.args.core.now c.if-self.false;
-  long = refl;
   same = refl;
 }

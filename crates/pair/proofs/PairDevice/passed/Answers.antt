@@ -1,6 +1,0 @@
-use Rattle.std.proofs.Common.{rules}
-use Rattle.pair.specs.Shown.{first_joined, second_joined}
-use Rattle.pair.proofs.PairDevice.passed.Goals as goal
-
-pub returns : goal.returns
-returns g c = simp (first_joined, second_joined) (search rules)
