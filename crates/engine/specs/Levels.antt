@@ -1,5 +1,5 @@
 -- The levels of a machine: status words, what is due, and what a sense of interrupts answers.
-use Rattle.std.specs.Prelude.{ℕ, zero, suc, ◌+◌, ◌-◌, ◌^◌, false, cond, ◌&&◌, List, [], ◌∷◌, Some, None, Option, ◌==◌, bit_or}
+use Rattle.std.specs.Prelude.{ℕ, zero, suc, ◌+◌, ◌-◌, ◌^◌, Bool, false, if◌then◌else◌, ◌&&◌, List, [], ◌∷◌, Some, None, Option, ◌==◌, bit_or}
 use Rattle.levels.specs.declared.state.Flags.{Flags}
 use Rattle.levels.specs.declared.state.Points.{Points}
 use Rattle.levels.specs.declared.state.Interrupt.{Interrupt}
@@ -12,9 +12,12 @@ use Rattle.engine.specs.declared.state.Works.{Works}
 use Rattle.engine.specs.Machine.{Machine, Dev, with_flags, with_points, with_processor}
 use Rattle.engine.specs.Makes.{Makes}
 
--- the bit that a device's raised line gives to a level's status word (bit 0 is the leftmost)
+-- the bit that a raised line gives to a level's status word (bit 0 is the leftmost), and the bit that a device's line gives
+abbrev pub wire_bit : Wire → Bool → ℕ → ℕ
+wire_bit w raised level = if w.level == level && raised then 2 ^ (15 - w.bit) else 0
+
 abbrev pub line_bit : Meaning → Dev → Wire → ℕ → ℕ
-line_bit m d w level = cond (w.level == level && m.line d.control) (2 ^ (15 - w.bit)) 0
+line_bit m d w level = wire_bit w (m.line d.control) level
 
 abbrev pub lines_at : Makes → Machine → ℕ → ℕ
 lines_at m s level =

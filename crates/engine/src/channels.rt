@@ -1,5 +1,6 @@
 // A channel's part of a stolen cycle: its reference to core, its device's bring or take, and where it then stands.
 ghost use Rattle.std.specs.Prelude.{◌≡◌, ℕ, ◌+◌, ◌%◌, ◌^◌, List};
+ghost use Rattle.engine.specs.declared.place.By.TheVariants.{Device as the_device};
 ghost use Rattle.engine.specs.Machine.{words_of_size, position_of, channel_at, with_channel};
 ghost use Rattle.engine.specs.Cycle.{at_head as the_head, after_table as behind_table, asking_of, moves, transferring, finished};
 ghost use Rattle.engine.specs.Code.{Room, Keeps, Serves, dev};
@@ -49,6 +50,16 @@ impl Works {
     }
 }
 
+// Whose cycle a channel's is: its device's.
+fn serving<D: ChannelDevice>(number: ChannelNumber, device: &D) -> By
+    ensures { result ≡ the_device (position_of number) D.Device.means.kind }
+{
+    By::Device {
+        position: Position::from(number),
+        kind: device.kind(),
+    }
+}
+
 // So many words on from an address, modulo the core's size. Each size divides what a sum of addresses wraps at.
 pub(crate) fn onward(size: CoreSize, address: u16, words: u16) -> u16
     ensures { result ≡ (address + words) % words_of_size size }
@@ -94,10 +105,7 @@ impl Processor {
         ensures after { Serves number D.Device.means (λ m s. moves (asking_of m number s) m number address s) self.old core.old (dev D.Device device.old) self.new core.new (dev D.Device device.new) }
         ensures keeps { Keeps 1 self.old self.new }
     {
-        let by = By::Device {
-            position: Position::from(number),
-            kind: device.kind(),
-        };
+        let by = serving(number, device);
         match device.asks() {
             Asking::Nothing => {}
             Asking::Bring => {
@@ -122,10 +130,7 @@ impl Processor {
         ensures after { Serves number D.Device.means (λ m. transferring m number) self.old core.old (dev D.Device device.old) self.new core.new (dev D.Device device.new) }
         ensures keeps { Keeps 1 self.old self.new }
     {
-        let by = By::Device {
-            position: Position::from(number),
-            kind: device.kind(),
-        };
+        let by = serving(number, device);
         match self.works.channel(number) {
             Channel::Idle => {}
             Channel::Head { address } => {

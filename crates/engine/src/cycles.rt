@@ -1,4 +1,5 @@
-// Program cycles and idle cycles, as plans have them.
+// Program cycles and idle cycles, as plans have them. Each begins with the offers and ends with telling; what is between takes and answers
+// something else in each, so they are four methods and not one with a part to fill in.
 ghost use Rattle.std.specs.Prelude.{ℕ, ◌^◌};
 ghost use Rattle.engine.specs.Plan.{Plan, read as the_read, store as the_store, mark as the_mark, rest as the_rest};
 ghost use Rattle.engine.specs.Cycle.{bringing, cycle};

@@ -1,4 +1,4 @@
-// The devices by position, as XIO asks for them.
+// The devices by position, as XIO asks for them. That the processor stays is said in each clause, since the engine's fields are public.
 ghost use Rattle.std.specs.Prelude.{◌≡◌, ℕ, List};
 ghost use Rattle.device.specs.Calls.{command_answer, sense_answer};
 ghost use Rattle.works.specs.Faults.{by_channel, recorded};

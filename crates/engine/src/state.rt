@@ -35,7 +35,7 @@ pub struct Wire {
     pub bit: u32,
 }
 
-// The four lines, by the devices' positions.
+// The four lines, by the devices' positions. They have names and no index, as the devices have, whose types differ.
 #[derive(Clone, Copy, PartialEq, Eq, Debug)]
 pub struct Wiring {
     pub first: Wire,

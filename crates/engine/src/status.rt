@@ -1,7 +1,7 @@
 // Status words of the levels, what is due, and what a sense of interrupts answers.
 ghost use Rattle.std.specs.Prelude.{◌≡◌, ℕ, ◌-◌, ◌^◌, ◌<◌, ◌&&◌, List, if◌then◌else◌, Some, ◌==◌, bit_or, slice_index};
 ghost use Rattle.levels.specs.declared.state.Interrupt.TheVariants.{Level};
-ghost use Rattle.engine.specs.Levels.{lines_at as the_lines, level_status as the_status, statuses as the_statuses, due_now, sensed_status as the_sensed};
+ghost use Rattle.engine.specs.Levels.{wire_bit, lines_at as the_lines, level_status as the_status, statuses as the_statuses, due_now, sensed_status as the_sensed};
 ghost use Rattle.engine.specs.Code.{view, makes};
 
 use crate::engine::Engine;
@@ -19,7 +19,7 @@ impl Wire {
 
     // The bit that a raised line gives to a level.
     fn bit_at(self, level: usize, raised: bool) -> u16
-        ensures { result ≡ (if self.level == level && raised then 2 ^ (15 - self.bit) else 0) }
+        ensures { result ≡ wire_bit self raised level }
     {
         if self.level == level && raised {
             self.mask()
@@ -30,9 +30,10 @@ impl Wire {
 
     // Adds a raised line to the levels' words. Nothing changes where there is no such level.
     fn raise(self, raised: bool, words: &mut [u16; LEVELS])
-        ensures { (level : ℕ) → level < 24 → slice_index words.new level ≡ bit_or (slice_index words.old level) (if self.level == level && raised then 2 ^ (15 - self.bit) else 0) }
+        ensures { (level : ℕ) → level < 24 → slice_index words.new level ≡ bit_or (slice_index words.old level) (wire_bit self raised level) }
     {
         if raised && self.level < LEVELS {
+            // by index: the library's `get_mut` says nothing of the words afterwards
             words[self.level] |= self.mask();
         }
     }
@@ -89,6 +90,7 @@ impl<A: ChannelDevice, B: ChannelDevice, C: ChannelDevice, D: Device> Engine<A, 
         ensures { (core : List ℕ) → result ≡ the_sensed (makes A.Device B.Device C.Device D.Device) (view A.Device B.Device C.Device D.Device self.now core) }
     {
         let works = &self.processor.works;
+        // one match of three cases: with `map_or` and a closure the goal stays open
         match works.service.highest() {
             None => 0,
             Some(Interrupt::Internal) => works.flags.word(),

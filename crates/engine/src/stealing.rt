@@ -11,7 +11,7 @@ use device::interface::{ChannelDevice, Device};
 use levels::choice::{Requester, first_behind};
 use works::channel::ChannelWish;
 
-// The channels, as the list of wishes has them.
+// The channels, as the list of wishes has them: a wish is a record of its own, which the one choice of a requester is given.
 const CHANNELS: [ChannelNumber; 3] = [
     ChannelNumber::Channel1,
     ChannelNumber::Channel2,
@@ -125,7 +125,7 @@ impl<A: ChannelDevice, B: ChannelDevice, C: ChannelDevice, D: Device> Engine<A, 
         Some(at + 1)
     }
 
-    // The offers before a program or idle cycle.
+    // The offers before a program or idle cycle. Three turns and no loop, as each is one of the three that the definition has.
     pub(crate) fn offers(&mut self, core: &mut [u32])
         requires room { Room (2 ^ 30) self.old.processor core.old }
         ensures after { Does A.Device B.Device C.Device D.Device the_offers self.old core.old self.new core.new }

@@ -17,7 +17,7 @@ use levels::state::Interrupt;
 use works::fault::Cause;
 use works::panel::RunState;
 
-// Where an interrupt's vector stands.
+// Where an interrupt's vector stands. That its level is below 24 is asked here and of what leads here, since the public type takes any number.
 fn vector(interrupt: Interrupt) -> u16
     requires { (l : ℕ) → interrupt ≡ Level l → l < 24 }
     ensures { result ≡ the_vector interrupt }

@@ -1,10 +1,10 @@
 // XIO, by its address word and control word.
-ghost use Rattle.std.specs.Prelude.{◌≡◌, ℕ, ◌*◌, ◌^◌, ◌<◌, ◌&&◌, List, length, Some, Ok};
+ghost use Rattle.std.specs.Prelude.{◌≡◌, ℕ, ◌*◌, ◌^◌, ◌<◌, ◌&&◌, List, length, Some, Ok, is_some, unwrap_or};
 ghost use Rattle.device.specs.declared.answer.DeviceFault.TheVariants.{NotTaken};
 ghost use Rattle.engine.specs.Levels.{cleared_by};
 ghost use Rattle.levels.specs.Interrupts.{highest};
 ghost use Rattle.engine.specs.Plan.{done, drop as the_drop, act, inquire, order as the_order};
-ghost use Rattle.engine.specs.Xio.{to_a, nobody as the_nobody, sense_interrupt as the_sense, channel_set, channel_for as the_channel, started as the_started, rested as the_rested, initializes as the_initializes, write_masks, read_switches, sense_switches as the_switches, area_zero as the_zero, move as the_move, commanded as the_commanded, refused as the_refused, without_channel, with_device as the_device, by_area as the_area, xio as the_xio};
+ghost use Rattle.engine.specs.Xio.{to_a, nobody as the_nobody, sense_interrupt as the_sense, channel_set, channel_for as the_channel, initializes as the_initializes, write_masks, read_switches, sense_switches as the_switches, area_zero as the_zero, move as the_move, commanded as the_commanded, refused as the_refused, without_channel, with_device as the_device, by_area as the_area, xio as the_xio};
 ghost use Rattle.engine.specs.Code.{Room, Within, spent, makes, Goes};
 
 use crate::engine::Engine;
@@ -44,7 +44,7 @@ fn initializes(function: u32) -> bool
 }
 
 impl Position {
-    // Its channel, if it has one.
+    // Its channel. A position without one is no error, so this is an Option.
     fn channel(self) -> Option<ChannelNumber>
         ensures { result ≡ the_channel self }
     {
@@ -74,37 +74,18 @@ impl Works {
         }
     }
 
-    // Puts a channel at a head that is to be worked through.
-    fn start(&mut self, initialize: bool, number: ChannelNumber, head: u16)
-        ensures { self.new ≡ the_started initialize number head self.old }
+    // The channel of a device that accepted a command: at a head, if one is to be worked through, and idle if the device is at rest.
+    fn settle(&mut self, channel: Option<ChannelNumber>, head: Option<u16>, operating: bool)
+        ensures { self.new ≡ channel_set channel (is_some head) operating (unwrap_or head 0) self.old }
     {
-        if initialize {
-            self.set_channel(number, Channel::Head { address: head });
+        let Some(number) = channel else {
+            return;
+        };
+        if let Some(address) = head {
+            self.set_channel(number, Channel::Head { address });
         }
-    }
-
-    // Idles the channel of a device at rest.
-    fn idle_unless(&mut self, operating: bool, number: ChannelNumber)
-        ensures { self.new ≡ the_rested operating number self.old }
-    {
         if !operating {
             self.set_channel(number, Channel::Idle);
-        }
-    }
-
-    // The channel of a device that accepted a command.
-    fn settle(
-        &mut self,
-        channel: Option<ChannelNumber>,
-        initialize: bool,
-        operating: bool,
-        head: u16,
-    )
-        ensures { self.new ≡ channel_set channel initialize operating head self.old }
-    {
-        if let Some(number) = channel {
-            self.start(initialize, number, head);
-            self.idle_unless(operating, number);
         }
     }
 }
@@ -129,7 +110,7 @@ impl<A: ChannelDevice, B: ChannelDevice, C: ChannelDevice, D: Device> Engine<A, 
         self.processor.works.clear_sensed();
     }
 
-    // Write to area 0: the masks, once the cycle is told.
+    // Write to area 0: the masks, once the cycle is told. `high` says which of the two words of masks it is.
     fn write_masks(&mut self, core: &mut [u32], address: u16, high: bool)
         requires room { Room (2 ^ 30) self.old.processor core.old }
         ensures goes { Goes A.Device B.Device C.Device D.Device (write_masks high address) self.old core.old done self.new core.new }
@@ -217,12 +198,12 @@ impl<A: ChannelDevice, B: ChannelDevice, C: ChannelDevice, D: Device> Engine<A, 
         ensures goes { Goes A.Device B.Device C.Device D.Device (the_commanded (makes A.Device B.Device C.Device D.Device) (length core.old) pair.at pair.address pair.control position (Ok tt)) self.old core.old done self.new core.new }
         ensures within { Within 8 self.old.processor self.new.processor }
     {
-        let head = place(self.processor.books.size, pair.address);
+        let place = place(self.processor.books.size, pair.address);
+        let head = initializes(pair.control.function).then_some(place);
         let operating = self.operating(position);
-        let initialize = initializes(pair.control.function);
         self.processor
             .works
-            .settle(position.channel(), initialize, operating, head);
+            .settle(position.channel(), head, operating);
         self.move_word(core, position, pair.control, pair.address);
     }
 

@@ -22,7 +22,8 @@ fn print_step(rt: &HostRuntime, step: u32, rig: &Rig, report: &Report) -> anyhow
     Ok(())
 }
 
-// Steps until it waits, or so many times.
+// Steps until it waits, or so many times. A refusal is an answer that is printed, and no failure of the program, so it stands apart from the system's
+// errors: one type of both would want a `From` for each of those.
 fn go(rt: &HostRuntime, rig: &mut Rig, core: &mut [u32]) -> anyhow::Result<Result<(), Refusal>> {
     for step in 1..=STEPS {
         let report = match rig.step(core) {
@@ -37,7 +38,7 @@ fn go(rt: &HostRuntime, rig: &mut Rig, core: &mut [u32]) -> anyhow::Result<Resul
     Ok(Ok(()))
 }
 
-// What it is about to run, or why that is refused.
+// What it is about to run, or why that is refused. (It reads an image, which `bench` does not: else the two are alike.)
 fn started(image: &[u8], core: &mut [u32]) -> Result<Rig, Refusal> {
     decode(image, core)?;
     let mut rig = open(core)?;

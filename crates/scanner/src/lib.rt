@@ -40,7 +40,7 @@ impl<'a> Readings<'a> {
     }
 }
 
-// A scanner's control, number by number: area, gap, operating, wait, line, words left.
+// A scanner's control, number by number: area, gap, operating, wait, line, words left. The recorder's has one number more, so each has its own.
 pub fn control<'a>(scanner: &Scanner<'a>) -> [usize; 6]
     ensures { result ≡ ⟦<Scanner<'a> as Device>⟧.control scanner.now }
 {

@@ -90,7 +90,7 @@ impl Terminal {
         Ok(())
     }
 
-    // The line in bit 0 and operating in bit 1.
+    // The line in bit 0 and operating in bit 1. It is a status word made of two of the fields, so no conversion of the terminal.
     pub fn status(&self) -> u16
         ensures { result ≡ status_is self.now.line self.now.operating }
     {

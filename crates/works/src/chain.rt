@@ -1,4 +1,4 @@
-// The channel's fault wraps the device's refusal, and the controller's wraps the channel's, carried by `?`. Whoever knows the place sets it.
+// The channel's fault wraps the device's refusal, and the controller's wraps the channel's, turned by `From`. Whoever knows the place sets it.
 ghost use Rattle.std.specs.Prelude.{◌≡◌};
 ghost use Rattle.works.specs.declared.fault.ChannelFault.TheVariants.{Refused as the_refused};
 ghost use Rattle.device.specs.Calls.{command_answer, command_control};
@@ -9,6 +9,7 @@ use device::answer::DeviceFault;
 use device::control::ControlWord;
 use device::interface::Device;
 
+// Numbers by a match and no discriminants: a cause may hold a channel's fault, and that a device's refusal.
 impl ChannelFault {
     pub fn number(self) -> u32
         ensures { result ≡ the_channel_number self }
