@@ -21,12 +21,11 @@ pub type Rig = Controller<Scanner<'static>, Scanner<'static>, Scanner<'static>, 
 fn wiring() -> Wiring
     ensures { result ≡ row }
 {
-    let [first, second, third, fourth] = [0, 1, 2, 3].map(|bit| Wire { level: 0, bit });
     Wiring {
-        first,
-        second,
-        third,
-        fourth,
+        first: Wire { level: 0, bit: 0 },
+        second: Wire { level: 0, bit: 1 },
+        third: Wire { level: 0, bit: 2 },
+        fourth: Wire { level: 0, bit: 3 },
     }
 }
 
