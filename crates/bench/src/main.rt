@@ -2,8 +2,7 @@
 // for timing the step; the gate runs it for a few steps only.
 #![tactic(auto)]
 
-use refusal::Refusal;
-use rig::{Rig, open};
+use rig::{Rig, started};
 use std::env;
 use storage::word::word_of;
 use works::panel::Counts;
@@ -19,13 +18,6 @@ fn go(rig: &mut Rig, core: &mut [u32], steps: u64) -> u64 {
         }
     }
     steps
-}
-
-// What it is about to run, or why that is refused.
-fn started(core: &[u32]) -> Result<Rig, Refusal> {
-    let mut rig = open(core)?;
-    rig.start(core)?;
-    Ok(rig)
 }
 
 fn run(rt: &HostRuntime) -> anyhow::Result<()> {

@@ -5,7 +5,8 @@ use Rattle.refusal.specs.declared.Refusal.TheVariants.{Length, CycleLimit}
 use Rattle.engine.specs.declared.state.Report.{Report}
 use Rattle.engine.specs.Machine.{Machine}
 use Rattle.engine.specs.Makes.{Makes}
-use Rattle.engine.specs.Step.{lent_right, below_limit, step_answer, step_machine}
+use Rattle.engine.specs.Step.{lent_right, below_limit}
+use Rattle.engine.specs.Code.{step_answer, step_machine}
 use Rattle.controller.specs.declared.call.Call.{Call}
 use Rattle.controller.specs.declared.call.Call.TheVariants.{Step}
 use Rattle.controller.specs.Console.{only_if, stepping, made_call, call}

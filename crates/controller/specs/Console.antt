@@ -1,4 +1,4 @@
--- The twelve calls, each with its refusals in order of their numbers. A refused call changes nothing. No call but a step makes a cycle.
+-- The twelve calls, each with its refusals in order of their numbers. What is refused leaves the machine as it was. Cycles are made by steps alone.
 use Rattle.std.specs.Prelude.{ℕ, ◌+◌, Bool, true, false, cond, not, List, [], ◌∷◌, map, length, Ok, Err, Result}
 use Rattle.refusal.specs.declared.Refusal.{Refusal}
 use Rattle.refusal.specs.declared.Refusal.TheVariants.{Length, Wiring, NotStopped, Protected, CycleLimit}
@@ -56,7 +56,8 @@ only_if false r call s = refuse r s
 abbrev pub stepping : Makes → Machine → Done
 stepping m s = answered (λ t. Ok (Stepped (report_of t.processor))) (step m s)
 
--- Immediate stop: all is as at opening but index registers, totals, switches and what opening gave, and each device is reset.
+-- Immediate stop: the index registers, the totals, the switches and what opening was given stay, all else is as it was opened, and each device is
+-- reset.
 abbrev pub stopped_registers : Registers → Registers
 stopped_registers r = record { i = 0; a = 0; q = 0; x1 = r.x1; x2 = r.x2; x3 = r.x3; carry = false; overflow = false }
 
@@ -87,8 +88,8 @@ is_stopped Waiting = false
 abbrev pub when_stopped : (Machine → Done) → Machine → Done
 when_stopped call s = only_if (is_stopped s.processor.works.run) NotStopped call s
 
--- Load I, load and display: I from the data entry switches; a word from them at I, stored as any store; the word at I, unchecked. The
--- last two then raise I by one.
+-- Load I, load and display: I from the data entry switches; a word from them at I, stored as any store; the word at I, unchecked. After
+-- the last two I is one more.
 abbrev pub data_switches : Machine → ℕ
 data_switches s = s.processor.books.switches.«data»
 
@@ -124,7 +125,7 @@ abbrev pub unprotected : Bool → ℕ → ℕ
 unprotected true w = word_of (data_of w) false
 unprotected false w = w
 
--- clearing words stores them; clearing protect bits alone is no store
+-- told Run it stores words; told Display it stores none
 abbrev pub swept : Bool → ℕ → List ℕ → List Event
 swept at_yes a [] = []
 swept at_yes a (w ∷ ws) = cond (is_cleared at_yes w) (stored_at a ∷ swept at_yes (a + 1) ws) (swept at_yes (a + 1) ws)

@@ -1,4 +1,4 @@
--- A list of calls. Every call gets the opened core where the last left off, or a core of a wrong length.
+-- A list of calls. Every call gets the opened core where the last left off, or a core of another length.
 use Rattle.std.specs.Prelude.{List, [], ◌∷◌, ◌++◌}
 use Rattle.refusal.specs.declared.Refusal.TheVariants.{Length}
 use Rattle.engine.specs.Machine.{Machine}
@@ -10,7 +10,7 @@ use Rattle.controller.specs.declared.call.Lent.{Lent}
 use Rattle.controller.specs.declared.call.Lent.TheVariants.{Opened, Other}
 use Rattle.controller.specs.Console.{Answer, Done, refuse, call}
 
--- a core of another length is refused with 1, and is left as it was
+-- a core of another length is refused with 1
 abbrev pub lending : Lent → Makes → Call → Machine → Done
 lending Opened m c s = call m c s
 lending Other m c s = refuse Length s

@@ -26,7 +26,7 @@ pub enum Call {
     Count,
 }
 
-// Which core a call is lent: the opened one, where the last call left off, or one of a wrong length.
+// Which core a call is lent: the opened one, where the last call left off, or one of another length.
 #[derive(Clone, Copy, PartialEq, Eq, Debug)]
 pub enum Lent {
     Opened,

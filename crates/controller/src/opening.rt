@@ -1,4 +1,4 @@
-// Opening: a check by reference, and a making that refuses nothing.
+// Opening: first a check, which borrows what it looks at, and then a making, which cannot fail.
 ghost use Rattle.std.specs.Prelude.{◌≡◌, length};
 ghost use Rattle.storage.specs.Memory.{core_size};
 ghost use Rattle.controller.specs.Opening.{on_panel as the_panel, all_wired as the_wired, opening, opened_works as the_works, opened_books as the_books, opened as the_opened};
@@ -70,7 +70,7 @@ fn opened_books(words: usize, wiring: Wiring) -> Books
     Books {
         switches: Switches::default(),
         totals: Counts::default(),
-        // over what the check refuses, no address is ever looked at
+        // where the check refuses, no address is ever looked at
         size: CoreSize::try_from(words).unwrap_or(CoreSize::Words32768),
         accepted: check(words, &wiring).is_ok(),
         wiring,

@@ -45,14 +45,14 @@ impl<A: ChannelDevice, B: ChannelDevice, C: ChannelDevice, D: Device> Controller
         works.run
     }
 
-    // Cycles since opening or the last accepted count.
+    // Cycles since the last accepted count, or since opening if there was none.
     pub fn totals(&self) -> Counts
         ensures { result ≡ self.now.engine.processor.books.totals }
     {
         self.engine.processor.books.totals
     }
 
-    // The status word of a level: its latched points and raised lines.
+    // The status word of a level: the points latched for it and the lines that are up.
     pub fn level_status(&self, level: usize) -> u16
         ensures { (core : List ℕ) → result ≡ the_status (makes A.Device B.Device C.Device D.Device) (held A.Device B.Device C.Device D.Device self.now core) level }
     {

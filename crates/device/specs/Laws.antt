@@ -22,7 +22,8 @@ pub record Lawful (m : Meaning) : Type 0 where
   pub own : (c : List ℕ) (area function : ℕ) → m.takes c area function ≡ true → m.answers c area ≡ true
   -- a place is within the words
   pub within : (c : List ℕ) (area p : ℕ) → get_place m c area ≡ Some p → p < m.left c
-  -- a raised area is the device's own and shows on the line, and is no longer raised once its line is turned off
+  -- A raised area is the device's own and shows on the line, and is no longer raised once its line is turned off. It is the make that tells which
+  -- areas are raised: of one that calls none raised this says nothing.
   pub shows : (c : List ℕ) (area : ℕ) → m.raised c area ≡ true → (m.answers c area ≡ true) × (m.line c ≡ true)
   pub off : (c : List ℕ) (area : ℕ) → m.raised (m.line_off c area) area ≡ false
   -- a device at rest does not operate

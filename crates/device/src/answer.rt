@@ -27,7 +27,7 @@ impl fmt::Display for DeviceFault {
 
 impl Error for DeviceFault {}
 
-// What a channel device wants of its channel.
+// What a channel device wants of its channel. Bring and take are opposites, and each has a name of its own.
 #[derive(Clone, Copy, PartialEq, Eq, Debug)]
 pub enum Asking {
     Nothing,

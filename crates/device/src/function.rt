@@ -1,4 +1,4 @@
-// The functions that a command may name.
+// The functions of a control word. 3 and 7 are senses, and no command names them.
 // They stay plain numbers: any number may be given, and what an area does not know is refused as not taken, so that an enum
 // would need one more case to hold the rest.
 pub const WRITE: u32 = 1;

@@ -11,7 +11,7 @@ use crate::table::TableEnd;
 
 // Areas, functions, modifiers and words are plain numbers, and any of them may be given.
 pub trait Device {
-    // The number of its make, which fault records carry. The check takes it in an impl that has type or const parameters or none, and
+    // The number of its make, which fault records carry: a constant, as the project's rules name it. The check takes it in an impl that has type or const parameters or none, and
     // not yet in one for a type with a lifetime: a make that borrows has what it borrows in a type parameter.
     ghost KIND_NUMBER: { ℕ };
 

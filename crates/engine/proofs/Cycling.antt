@@ -1,6 +1,5 @@
 -- Cycles, from their parts.
-use Rattle.std.proofs.Common.{◌≡◌, ℕ, zero, suc, ◌+◌, ◌<◌, Bool, List, [], ◌∷◌, get_or, length, Some, None, Option, sym, refl, ap, ◌∙◌, subst, arith}
-use Rattle.levels.specs.Choice.{Chosen}
+use Rattle.std.proofs.Common.{◌≡◌, ℕ, zero, suc, ◌+◌, ◌<◌, [], ◌∷◌, get_or, Some, None, Option, sym, refl, ap, ◌∙◌, arith}
 use Rattle.engine.specs.declared.place.By.TheVariants.{Program}
 use Rattle.engine.specs.declared.place.ChannelNumber.{ChannelNumber}
 use Rattle.engine.specs.declared.place.ChannelNumber.TheVariants.{Channel1, Channel2, Channel3}
@@ -15,10 +14,6 @@ pub steal_by : (m : Makes) (n : ChannelNumber) (s t w : Machine) → t ≡ (tran
     → (finished m n w).machine ≡ (steal m n s).machine
 unfolding steal tell
 steal_by m n s t w e k = ap (λ (x : Machine). (finished m n x).machine) (k ∙ ap (λ (x : Machine). (calling_all m passed (counted one_stolen x)).machine) e)
-
--- a chosen place is one of the three
-pub few_chosen : {R : Type 0} (p : R → Bool) (xs : List R) (o : Option ℕ) → length xs ≡ 3 → Chosen p xs o → (i : ℕ) → o ≡ Some i → i < 3
-few_chosen {R} p xs o e h i k = subst (λ (n : ℕ). i < n) e (subst (λ (x : Option ℕ). Chosen p xs x) k h).0
 
 -- a turn of the offers
 pub turn_none : (m : Makes) (b : Option ℕ) (n : ℕ) (s : Machine) → chosen m b s ≡ None → (turns (suc n) m b s).machine ≡ s

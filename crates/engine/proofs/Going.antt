@@ -1,5 +1,5 @@
 -- How a plan goes on, from what the code did.
-use Rattle.std.proofs.Common.{◌≡◌, ℕ, ◌+◌, ◌*◌, ◌%◌, Bool, true, false, cond, List, length, Option, sym, ap, ◌∙◌, ap₂}
+use Rattle.std.proofs.Common.{◌≡◌, ℕ, ◌+◌, ◌*◌, ◌%◌, Bool, true, false, cond, List, length, Option, sym, refl, ap, ◌∙◌, ap₂}
 use Rattle.instruction.specs.declared.words.Index.{Index}
 use Rattle.instruction.specs.declared.words.Fields.{Fields}
 use Rattle.levels.specs.declared.state.Service.{Service}
@@ -9,21 +9,17 @@ use Rattle.registers.specs.Parts.{with_i}
 use Rattle.registers.specs.Branches.{holds, tested, modified, skips, status_word, status_stored}
 use Rattle.engine.specs.declared.state.Processor.{Processor}
 use Rattle.engine.specs.declared.state.Books.{Books}
-use Rattle.engine.specs.Machine.{Machine, with_registers, with_service, work, words_of_size}
+use Rattle.engine.specs.Machine.{Machine, with_processor, with_registers, with_service, work, words_of_size}
 use Rattle.engine.specs.Makes.{Makes}
 use Rattle.engine.specs.Plan.{Plan, done, act, look, read, store, mark, perform}
 use Rattle.engine.specs.Instructions.{change, i_set, advanced, skip_if, leave, branching, branch_store, modify_memory, store_status, protect, second, indirectly, indexed, formed_of, formed, value_of, odd, double}
 use Rattle.engine.specs.Xio.{xio}
-use Rattle.engine.specs.Code.{Fits}
+use Rattle.engine.specs.Code.{Fits, moved}
 
 -- a change by the size that the code has is one by the core's length
 pub by_length : {X : Type 0} (g : ℕ → X) (t : X) (p q : Processor) (u : List ℕ) → Fits p u → q.books ≡ p.books
     → t ≡ g (words_of_size q.books.size) → t ≡ g (length u)
 by_length g t p q u f b e = e ∙ ap (λ (x : Books). g (words_of_size x.size)) b ∙ ap g (sym f)
-
--- only I moved
-pub only_i : (v : ℕ) (r t : Registers) → t ≡ with_i v r → t ≡ with_i t.i r
-only_i v r t e = e ∙ ap (λ (i : ℕ). with_i i r) (ap (λ (x : Registers). x.i) (sym e))
 
 module _ (m : Makes) where
   -- what is left of a plan, from one machine to the next
@@ -35,13 +31,13 @@ module _ (m : Makes) where
       → To (change f p) s p (work (with_registers r) s)
   changed f p s r e = ap (λ (x : Registers). (perform m p (work (with_registers x) s)).machine) (sym e)
 
-  pub second_goes : (n : ℕ) (r t : Registers) (w : ℕ) (s₀ s : Machine) → ((k : ℕ → Plan) → To (read r.i k) s₀ (k w) s)
-      → t ≡ advanced n 1 s.processor.works.registers → t ≡ advanced n 1 r
-      → (k : ℕ → Registers → Plan) → To (second n r k) s₀ (k w t) (work (with_registers t) s)
-  second_goes n r t w s₀ s g e h k =
+  pub second_goes : (n : ℕ) (r : Registers) (q : Processor) (w : ℕ) (s₀ s : Machine) → ((k : ℕ → Plan) → To (read r.i k) s₀ (k w) s)
+      → s.processor.works.registers ≡ r → q ≡ moved (advanced n 1) s.processor
+      → (k : ℕ → Registers → Plan) → To (second n r k) s₀ (k w q.works.registers) (with_processor q s)
+  second_goes n r q w s₀ s g e h k =
       g (λ (a : ℕ). change (advanced n 1) (k a (advanced n 1 r)))
-      ∙ changed (advanced n 1) (k w (advanced n 1 r)) s t e
-      ∙ ap (λ (y : Registers). (perform m (k w y) (work (with_registers t) s)).machine) (sym h)
+      ∙ ap (λ (y : Registers). (perform m (change (advanced n 1) (k w (advanced n 1 y))) s).machine) (sym e)
+      ∙ ap (λ (x : Processor). (perform m (k w x.works.registers) (with_processor x s)).machine) (sym h)
 
   pub formed_long : (n : ℕ) (tag : Option Index) (f : Fields) (r t z : Registers) (s₀ s₁ s₂ : Machine) (w d v : ℕ) → f.long ≡ true
       → ((k : ℕ → Registers → Plan) → To (second n r k) s₀ (k w t) s₁) → d ≡ indexed tag 0 w t
@@ -76,29 +72,29 @@ module _ (m : Makes) where
       ∙ i (λ (low : ℕ). k (high * 65536 + low))
       ∙ ap (λ (x : ℕ). (perform m (k x) s₃).machine) (sym e)
 
-  pub skip_goes : (n : ℕ) (b d : Bool) (s : Machine) (t : Registers) → d ≡ b
-      → t ≡ cond d (advanced n 1 s.processor.works.registers) s.processor.works.registers
-      → To (skip_if n b) s done (work (with_registers t) s)
-  skip_goes n b d s t e h = ap (λ (x : Bool). (perform m (skip_if n x) s).machine) (sym e) ∙ by_cases d h
+  pub skip_goes : (n : ℕ) (b d : Bool) (s : Machine) (q : Processor) → d ≡ b
+      → q ≡ cond d (moved (advanced n 1) s.processor) s.processor
+      → To (skip_if n b) s done (with_processor q s)
+  skip_goes n b d s q e h =
+      ap (λ (x : Bool). (perform m (skip_if n x) s).machine) (sym e) ∙ by_cases d ∙ ap (λ (x : Processor). with_processor x s) (sym h)
     where
-      by_cases : (d : Bool) → t ≡ cond d (advanced n 1 s.processor.works.registers) s.processor.works.registers
-          → To (skip_if n d) s done (work (with_registers t) s)
-      by_cases true h = changed (advanced n 1) done s t h
-      by_cases false h = ap (λ (x : Registers). work (with_registers x) s) (sym h)
+      by_cases : (d : Bool) → To (skip_if n d) s done (with_processor (cond d (moved (advanced n 1) s.processor) s.processor) s)
+      by_cases true = refl
+      by_cases false = refl
 
   -- MDX of a word of core
-  pub memory_goes : (n : ℕ) (f : Fields) (r z : Registers) (a v w : ℕ) (d : Bool) (s₀ s₁ s₂ s₃ : Machine) (t : Registers)
+  pub memory_goes : (n : ℕ) (f : Fields) (r z : Registers) (a v w : ℕ) (d : Bool) (s₀ s₁ s₂ s₃ : Machine) (q : Processor)
       → ((k : ℕ → Registers → Plan) → To (second n r k) s₀ (k a z) s₁)
       → ((k : ℕ → Plan) → To (read a k) s₁ (k v) s₂) → w ≡ modified v f.displacement → d ≡ skips v f.displacement
       → ((p : Plan) → To (store a w p) s₂ p s₃)
-      → t ≡ cond d (advanced n 1 s₃.processor.works.registers) s₃.processor.works.registers
-      → To (second n r (λ address r. modify_memory n f address)) s₀ done (work (with_registers t) s₃)
-  memory_goes n f r z a v w d s₀ s₁ s₂ s₃ t first g e h i j =
+      → q ≡ cond d (moved (advanced n 1) s₃.processor) s₃.processor
+      → To (second n r (λ address r. modify_memory n f address)) s₀ done (with_processor q s₃)
+  memory_goes n f r z a v w d s₀ s₁ s₂ s₃ q first g e h i j =
       first (λ (address : ℕ) (r : Registers). modify_memory n f address)
       ∙ g (λ (v : ℕ). store a (modified v f.displacement) (skip_if n (skips v f.displacement)))
       ∙ ap (λ (x : ℕ). (perform m (store a x (skip_if n (skips v f.displacement))) s₂).machine) (sym e)
       ∙ i (skip_if n (skips v f.displacement))
-      ∙ skip_goes n (skips v f.displacement) d s₃ t h j
+      ∙ skip_goes n (skips v f.displacement) d s₃ q h j
 
   -- STS
   pub status_goes : (n : ℕ) (f : Fields) (r t : Registers) (a v w : ℕ) (s₀ s₁ s₂ s₃ : Machine)

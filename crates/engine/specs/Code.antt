@@ -1,6 +1,7 @@
 -- What the contracts of the code say, in terms of the definition.
-use Rattle.std.specs.Prelude.{◌≡◌, ℕ, ◌+◌, ◌<◌, ◌≤◌, List, length, Some, None, Option, Result}
+use Rattle.std.specs.Prelude.{◌≡◌, ℕ, ◌+◌, ◌<◌, ◌≤◌, Bool, true, false, List, length, Some, None, Ok, Err, Option, Result}
 use Rattle.refusal.specs.declared.Refusal.{Refusal}
+use Rattle.refusal.specs.declared.Refusal.TheVariants.{Length, CycleLimit}
 use Rattle.std.specs.Borrow.{MutBor}
 use Rattle.device.specs.Meaning.{Meaning}
 use Rattle.device.specs.declared.interface.Device.{Ghosts}
@@ -13,13 +14,13 @@ use Rattle.engine.specs.declared.place.By.{By}
 use Rattle.engine.specs.declared.place.ChannelNumber.{ChannelNumber}
 use Rattle.engine.specs.declared.state.Processor.{Processor}
 use Rattle.engine.specs.declared.state.Report.{Report}
-use Rattle.engine.specs.Machine.{Machine, Dev, position_of, with_core, with_processor, with_dev, words_of_size}
+use Rattle.engine.specs.Machine.{Machine, Dev, position_of, with_core, with_processor, with_dev, with_works, with_registers, words_of_size}
 use Rattle.engine.specs.Events.{Did}
 use Rattle.engine.specs.Makes.{Makes, make_at}
 use Rattle.engine.specs.Cycle.{Reference, refer, turns}
 use Rattle.engine.specs.Plan.{Plan, done, perform}
 use Rattle.engine.specs.Instructions.{operation}
-use Rattle.engine.specs.Step.{lent_right, below_limit, step_answer, step_machine}
+use Rattle.engine.specs.Step.{lent_right, below_limit, report_of, step}
 
 -- the core is as long as the processor's books say
 abbrev pub Fits : Processor → List ℕ → Type 0
@@ -28,6 +29,10 @@ Fits p u = length u ≡ words_of_size p.books.size
 -- what a step has counted so far, faults too: a bound for the code's numbers
 abbrev pub spent : Processor → ℕ
 spent p = p.tally.counts.program + p.tally.counts.stolen + p.tally.counts.idle + p.tally.faults
+
+-- a processor with its registers as f makes them
+abbrev pub moved : (Registers → Registers) → Processor → Processor
+moved f p = with_works (with_registers (f p.works.registers) p.works) p
 
 -- a reference takes processor p and core u to q and v, whatever the devices
 abbrev pub Refers : By → Reference → Processor → List ℕ → Processor → List ℕ → Type 0
@@ -67,6 +72,17 @@ at_channel n p u x o = with_core u (with_processor p (with_dev (position_of n) x
 
 abbrev pub Serves : ChannelNumber → Meaning → (Makes → Machine → Did) → Processor → List ℕ → Dev → Processor → List ℕ → Dev → Type 0
 Serves n mean f p u x q v y = (m : Makes) (o : Machine) → make_at (position_of n) m ≡ mean → (f m (at_channel n p u x o)).machine ≡ at_channel n q v y o
+
+-- what a call of the step answers, and what it leaves, by whether the core is lent right and the step is still counted
+abbrev pub step_answer : Bool → Bool → Makes → Machine → Result Report Refusal
+step_answer true true m s = Ok (report_of (step m s).machine.processor)
+step_answer true false m s = Err CycleLimit
+step_answer false b m s = Err Length
+
+abbrev pub step_machine : Bool → Bool → Makes → Machine → Machine
+step_machine true true m s = (step m s).machine
+step_machine true false m s = s
+step_machine false b m s = s
 
 module _ {A B C D : Type 0} (a : Ghosts A) (b : Ghosts B) (c : Ghosts C) (d : Ghosts D) where
   -- the machine that the code holds, with the core that is lent to it

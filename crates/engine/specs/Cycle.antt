@@ -1,11 +1,12 @@
 -- Cycles: the one place where program and channels touch core. (The console has its own calls.)
 use Rattle.std.specs.Prelude.{ℕ, zero, suc, ◌+◌, ◌-◌, ◌%◌, Bool, true, false, List, [], ◌∷◌, length, Some, None, Option, slice_index, slice_set}
 use Rattle.storage.specs.Word.{data_of, is_protected, parity_right, word_of, stored}
-use Rattle.instruction.specs.Decoding.{bit, bits}
+use Rattle.instruction.specs.Decoding.{bits}
 use Rattle.levels.specs.Choice.{first_behind}
 use Rattle.device.specs.declared.answer.Asking.{Asking}
 use Rattle.device.specs.declared.answer.Asking.TheVariants.{Nothing, Bring, Take}
 use Rattle.device.specs.Calls.{bring_place, word_at}
+use Rattle.device.specs.Orders.{end_of}
 use Rattle.works.specs.declared.channel.Channel.{Channel}
 use Rattle.works.specs.declared.channel.Channel.TheVariants.{Idle, Head, Data, NextHead}
 use Rattle.works.specs.declared.channel.ChannelWish.{ChannelWish}
@@ -76,9 +77,9 @@ tell m f s = calling_all m passed (counted f s)
 
 -- A stolen cycle, by where the channel stands in its table.
 -- At a head it reads scan control and count: bit 0 go on, bit 1 tell, bits 4 to 15 the count.
--- In data it moves one word, as the device asks. At the word that names the next head it reads that address.
+-- In data it moves one word, as the device asks. Behind the data it reads the address of another head.
 abbrev pub at_head : ℕ → ℕ → ℕ → Channel
-at_head n a w = Data ((a + 1) % n) (bits w 4 15) (record { go_on = bit w 0; tell = bit w 1 })
+at_head n a w = Data ((a + 1) % n) (bits w 4 15) (end_of w)
 
 abbrev pub set_channel : ChannelNumber → Channel → Machine → Did
 set_channel l c s = quiet (work (with_channel l c) s)

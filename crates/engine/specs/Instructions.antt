@@ -1,5 +1,5 @@
--- The instructions: the plan of each operation, a clause to an operation. n is the core's size, r the registers as they were
--- when the plan came there: what a test, or a change of the registers, makes of them is not in r.
+-- The instructions: the plan of each operation, a clause to an operation. n is the core's size, r the registers as the
+-- instruction found them, but for I, which in r has gone past the words read so far as it has in the works.
 use Rattle.std.specs.Prelude.{ℕ, ◌+◌, ◌*◌, ◌/◌, ◌%◌, Bool, true, false, cond, ◌&&◌, Some, None, Option}
 use Rattle.instruction.specs.declared.words.Operation.{Operation}
 use Rattle.instruction.specs.declared.words.Operation.TheVariants.{ExecuteIo, ShiftLeft, ShiftRight, LoadStatus, StoreStatus, Wait, BranchStore, BranchSkip, LoadIndex, StoreIndex, ModifyIndex, Add, AddDouble, Subtract, SubtractDouble, Multiply, Divide, Compare, CompareDouble, Load, LoadDouble, Store, StoreDouble, And, Or, ExclusiveOr}
@@ -73,7 +73,7 @@ by_comparison n Greater = done
 by_comparison n Less = skip n 1 done
 by_comparison n Equal = skip n 2 done
 
--- With bit 9 on, a BSC that skips or branches ends the highest level in service.
+-- Where bit 9 is on and BSC does skip or branch, the highest in service is ended.
 abbrev pub leave : Fields → Plan → Plan
 leave f p = cond f.branch_out (act (λ w. with_service (ended w.service) w) p) p
 
@@ -112,8 +112,8 @@ modify n (Some x) f r = value_of n f r (λ by r. change (index_modified x by) (s
 modify n None f r =
     cond f.long (second n r (λ address r. modify_memory n f address)) (change (λ r. i_set n (i_modified f.displacement r).i r) done)
 
--- STS. In its protect form (long, bit 9 on) it sets the word's protect bit to the instruction's last bit, and with the write-protect
--- switch at No leaves the word alone. What it stores follows from the word that it read.
+-- STS. In its protect form (long, bit 9 on) it gives the word that it names the instruction's last bit as protect bit, or with the write-protect
+-- switch at No does nothing to it. What it stores follows from the word that it read.
 abbrev pub store_status : ℕ → Fields → Registers → Plan
 store_status n f r = formed n f r (λ ea r. read ea (λ v. store ea (status_word v r) (change status_stored done)))
 

@@ -12,7 +12,8 @@ use Rattle.engine.specs.declared.state.Works.{Works}
 use Rattle.engine.specs.Machine.{Machine, Dev, with_flags, with_points, with_processor}
 use Rattle.engine.specs.Makes.{Makes}
 
--- the bit that a raised line gives to a level's status word (bit 0 is the leftmost), and the bit that a device's line gives
+-- the bit that a line gives to a level's status word (bit 0 is the leftmost): none unless it is wired there and up; and the same for a device
+-- at its wire
 abbrev pub wire_bit : Wire → Bool → ℕ → ℕ
 wire_bit w raised level = if w.level == level && raised then 2 ^ (15 - w.bit) else 0
 
@@ -26,7 +27,7 @@ lines_at m s level =
     (bit_or (line_bit m.second s.second w.second level)
     (bit_or (line_bit m.third s.third w.third level) (line_bit m.fourth s.fourth w.fourth level)))
 
--- a level's status word: its latched points and raised lines; and those of so many levels, from one on
+-- a level's status word, from the points latched for it and the lines that are up; and those of so many levels, from one on
 unfoldable pub level_status : Makes → Machine → ℕ → ℕ
 level_status m s level = status s.processor.points.words level (lines_at m s level)
 

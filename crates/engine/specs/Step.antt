@@ -1,7 +1,5 @@
 -- A step: which plan is performed, Check Stop at its end, and what the books gain.
-use Rattle.std.specs.Prelude.{ℕ, ◌+◌, Bool, true, false, ◌&&◌, length, Some, None, Ok, Err, Option, Result, ◌==◌, nat_lt}
-use Rattle.refusal.specs.declared.Refusal.{Refusal}
-use Rattle.refusal.specs.declared.Refusal.TheVariants.{Length, CycleLimit}
+use Rattle.std.specs.Prelude.{ℕ, ◌+◌, Bool, true, false, ◌&&◌, length, Some, None, Option, ◌==◌, nat_lt}
 use Rattle.registers.specs.declared.state.Registers.{Registers}
 use Rattle.levels.specs.declared.state.Interrupt.{Interrupt}
 use Rattle.works.specs.declared.panel.Counts.{Counts}
@@ -40,7 +38,7 @@ no_tally = record { counts = no_counts; faults = 0; first = None; checked = fals
 abbrev pub begun : Machine → Machine
 begun s = with_processor (with_tally no_tally s.processor) s
 
--- At its end, with Check Stop on, a check stops the machine, whatever state the step set; and the totals gain the step's counts.
+-- At its end, with Check Stop on, a check stops the machine, also where the step left it waiting; and the totals gain the step's counts.
 abbrev pub check_stopped : Bool → Processor → Processor
 check_stopped true p = with_works (with_run Stopped p.works) p
 check_stopped false p = p
@@ -61,7 +59,7 @@ unfoldable pub step : Makes → Machine → Did
 step m s = perform m (step_plan m s) (begun s) then (λ t. quiet (with_processor (ended_step t.processor) t))
 
 -- A step is refused with 1 where the core is not lent right: it is not as long as the one that was opened, or the opening was refused; and with 7
--- at 1,000,000,000,000 told cycles. Every cycle is told, so that is the sum of the three totals.
+-- from 1,000,000,000,000 told cycles on. Every cycle is told, so that is the sum of the three totals.
 abbrev pub lent_right : Machine → Bool
 lent_right s = s.processor.books.accepted && length s.core == words_of_size s.processor.books.size
 
@@ -71,16 +69,6 @@ told c = c.program + c.stolen + c.idle
 abbrev pub below_limit : Machine → Bool
 below_limit s = nat_lt (told s.processor.books.totals) 1000000000000
 
--- what a step answers, and what it leaves
+-- what a step answers
 abbrev pub report_of : Processor → Report
 report_of p = record { counts = p.tally.counts; run = p.works.run; faults = p.tally.faults; first = p.tally.first }
-
-abbrev pub step_answer : Bool → Bool → Makes → Machine → Result Report Refusal
-step_answer true true m s = Ok (report_of (step m s).machine.processor)
-step_answer true false m s = Err CycleLimit
-step_answer false b m s = Err Length
-
-abbrev pub step_machine : Bool → Bool → Makes → Machine → Machine
-step_machine true true m s = (step m s).machine
-step_machine true false m s = s
-step_machine false b m s = s

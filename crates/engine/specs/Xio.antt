@@ -67,7 +67,7 @@ answering m control area =
     (cond (m.third.answers (control Third) area) (Some Third)
     (cond (m.fourth.answers (control Fourth) area) (Some Fourth) None)))
 
--- Initialize (5 or 6) sets the channel to the head; then the channel of a device at rest goes idle. Device 4 has none.
+-- Initialize (5 or 6) sets the channel to the head. After any command that was accepted the channel of a device at rest goes idle. Device 4 has none.
 abbrev pub initializes : ℕ → Bool
 initializes function = function == 5 || function == 6
 

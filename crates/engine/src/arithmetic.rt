@@ -7,7 +7,7 @@ ghost use Rattle.engine.specs.Instructions.{change, by_comparison};
 ghost use Rattle.engine.specs.Code.{Room, Within, Effect, Goes};
 
 use crate::engine::Engine;
-use crate::operands::{Fetched, advance};
+use crate::operands::Fetched;
 use device::interface::{ChannelDevice, Device};
 use instruction::words::Fields;
 use registers::state::Registers;
@@ -35,11 +35,10 @@ impl<A: ChannelDevice, B: ChannelDevice, C: ChannelDevice, D: Device> Engine<A, 
         ensures goes { (u : List ℕ) → Goes A.Device B.Device C.Device D.Device (by_comparison (words_of_size self.old.processor.books.size) comparison) self.old u done self.new u }
         ensures within { Within 0 self.old.processor self.new.processor }
     {
-        let size = self.processor.books.size;
         match comparison {
             Ordering::Greater => {}
-            Ordering::Less => advance(&mut self.processor.works.registers, size, 1),
-            Ordering::Equal => advance(&mut self.processor.works.registers, size, 2),
+            Ordering::Less => self.processor.advance(1),
+            Ordering::Equal => self.processor.advance(2),
         }
     }
 }

@@ -9,12 +9,12 @@ ghost use Rattle.engine.specs.Code.{Room, Within, Goes, Operates};
 
 use crate::channels::onward;
 use crate::engine::Engine;
-use crate::operands::{advance, indexed, jump};
+use crate::operands::indexed;
 use device::interface::{ChannelDevice, Device};
 use instruction::words::Fields;
 use levels::state::Service;
 
-// With bit 9 on, a BSC that skips or branches ends the highest level in service.
+// Where bit 9 is on and BSC does skip or branch, the highest in service is ended.
 fn leave(service: &mut Service, fields: &Fields)
     ensures { service.new ≡ (if fields.now.branch_out then ended service.old else service.old) }
 {
@@ -75,13 +75,11 @@ impl<A: ChannelDevice, B: ChannelDevice, C: ChannelDevice, D: Device> Engine<A, 
         if fields.long {
             if let Some(address) = self.target(core, fields) {
                 leave(&mut self.processor.works.service, fields);
-                let size = self.processor.books.size;
-                jump(&mut self.processor.works.registers, size, address);
+                self.processor.jump(address);
             }
         } else if self.processor.works.registers.test(&fields.conditions) {
             leave(&mut self.processor.works.service, fields);
-            let size = self.processor.books.size;
-            advance(&mut self.processor.works.registers, size, 1);
+            self.processor.advance(1);
         }
     }
 }

@@ -74,10 +74,7 @@ fn at_head(size: CoreSize, address: u16, word: u16) -> Channel
     Channel::Data {
         address: onward(size, address, 1),
         count: word % 4096,
-        end: TableEnd {
-            go_on: word / 32768 % 2 == 1,
-            tell: word / 16384 % 2 == 1,
-        },
+        end: TableEnd::from(word),
     }
 }
 

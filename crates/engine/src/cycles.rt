@@ -1,5 +1,5 @@
-// Program cycles and idle cycles, as plans have them. Each begins with the offers and ends with telling; what is between takes and answers
-// something else in each, so they are four methods and not one with a part to fill in.
+// Program cycles and idle cycles, as plans have them. Each begins with the offers and ends with telling; a method that is given what is between, as
+// a closure, would have to say of every closure what these four say of one line each.
 ghost use Rattle.std.specs.Prelude.{ℕ, ◌^◌};
 ghost use Rattle.engine.specs.Plan.{Plan, read as the_read, store as the_store, mark as the_mark, rest as the_rest};
 ghost use Rattle.engine.specs.Cycle.{bringing, cycle};

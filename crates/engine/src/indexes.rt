@@ -4,15 +4,14 @@ ghost use Rattle.instruction.specs.declared.words.Operation.TheVariants.{LoadInd
 ghost use Rattle.engine.specs.Machine.{words_of_size};
 ghost use Rattle.engine.specs.Plan.{done};
 ghost use Rattle.engine.specs.Instructions.{advanced, loaded, named as the_named, modify as the_modify, second as the_second, modify_memory};
-ghost use Rattle.engine.specs.Code.{Room, Within, Goes, Operates};
+ghost use Rattle.engine.specs.Code.{Room, Within, Goes, Operates, moved};
 
 use crate::engine::Engine;
-use crate::operands::{advance, jump};
+use crate::state::Processor;
 use device::interface::{ChannelDevice, Device};
 use instruction::words::{Fields, Index};
 use registers::branches::modify;
 use registers::state::Registers;
-use storage::memory::CoreSize;
 
 fn named(registers: &Registers, tag: Option<Index>) -> u16
     ensures { result ≡ the_named tag registers.now }
@@ -23,20 +22,22 @@ fn named(registers: &Registers, tag: Option<Index>) -> u16
     }
 }
 
-fn load_named(registers: &mut Registers, size: CoreSize, tag: Option<Index>, value: u16)
-    ensures { registers.new ≡ loaded (words_of_size size) tag value registers.old }
-{
-    match tag {
-        Some(x) => registers.load_index(x, value),
-        None => jump(registers, size, value),
+impl Processor {
+    fn load_named(&mut self, tag: Option<Index>, value: u16)
+        ensures { self.new ≡ moved (loaded (words_of_size self.old.books.size) tag value) self.old }
+    {
+        match tag {
+            Some(x) => self.works.registers.load_index(x, value),
+            None => self.jump(value),
+        }
     }
-}
 
-fn skip_if(registers: &mut Registers, size: CoreSize, on: bool)
-    ensures { registers.new ≡ (if on then advanced (words_of_size size) 1 registers.old else registers.old) }
-{
-    if on {
-        advance(registers, size, 1);
+    fn skip_if(&mut self, on: bool)
+        ensures { self.new ≡ (if on then moved (advanced (words_of_size self.old.books.size) 1) self.old else self.old) }
+    {
+        if on {
+            self.advance(1);
+        }
     }
 }
 
@@ -48,8 +49,7 @@ impl<A: ChannelDevice, B: ChannelDevice, C: ChannelDevice, D: Device> Engine<A, 
         ensures within { Within 64 self.old.processor self.new.processor }
     {
         let value = self.value(core, fields);
-        let size = self.processor.books.size;
-        load_named(&mut self.processor.works.registers, size, fields.tag, value);
+        self.processor.load_named(fields.tag, value);
     }
 
     // STX
@@ -71,8 +71,7 @@ impl<A: ChannelDevice, B: ChannelDevice, C: ChannelDevice, D: Device> Engine<A, 
     {
         let by = self.value(core, fields);
         let skip = self.processor.works.registers.modify_index(x, by);
-        let size = self.processor.books.size;
-        skip_if(&mut self.processor.works.registers, size, skip);
+        self.processor.skip_if(skip);
     }
 
     // MDX, of a word of core.
@@ -85,8 +84,7 @@ impl<A: ChannelDevice, B: ChannelDevice, C: ChannelDevice, D: Device> Engine<A, 
         let old = self.read(core, address);
         let modified = modify(old, fields.displacement);
         self.store(core, address, modified.word);
-        let size = self.processor.books.size;
-        skip_if(&mut self.processor.works.registers, size, modified.skip);
+        self.processor.skip_if(modified.skip);
     }
 
     // MDX. Of I, in the short form with no tag, it never skips.
@@ -101,9 +99,9 @@ impl<A: ChannelDevice, B: ChannelDevice, C: ChannelDevice, D: Device> Engine<A, 
                 if fields.long {
                     self.modify_word(core, fields);
                 } else {
-                    let registers = &mut self.processor.works.registers;
-                    registers.modify_i(fields.displacement);
-                    jump(registers, self.processor.books.size, registers.i);
+                    self.processor.works.registers.modify_i(fields.displacement);
+                    let i = self.processor.works.registers.i;
+                    self.processor.jump(i);
                 }
             }
         }

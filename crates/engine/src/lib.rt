@@ -1,5 +1,5 @@
-// The machine: its own plain state with its four devices, and what it does. The definition of cycles, plans, instructions, XIO, interrupts and the
-// step is in specs/.
+// The machine: its own plain state with its four devices, and what it does. What it does is defined in specs/,
+// a file to a topic.
 #![tactic(auto)]
 
 mod arithmetic;

@@ -6,29 +6,31 @@ ghost use Rattle.registers.specs.Parts.{with_i};
 ghost use Rattle.engine.specs.Machine.{words_of_size};
 ghost use Rattle.engine.specs.Plan.{Plan};
 ghost use Rattle.engine.specs.Instructions.{advanced, i_set, second as the_second, indirectly, indexed as the_indexed, formed_of, value_of, odd as the_odd, single, double};
-ghost use Rattle.engine.specs.Code.{Room, Within, Goes};
+ghost use Rattle.engine.specs.Code.{Room, Within, Goes, moved};
 
 use crate::channels::onward;
 use crate::engine::Engine;
 use crate::references::place;
+use crate::state::Processor;
 use device::interface::{ChannelDevice, Device};
 use instruction::words::{Fields, Index};
+use registers::double::double_of;
 use registers::state::Registers;
-use storage::memory::CoreSize;
 
-// Moves I on by so many words. What works on registers and a size is given those two: as a method of the processor it would have to tell its
-// callers that all else stayed.
-pub(crate) fn advance(registers: &mut Registers, size: CoreSize, words: u16)
-    ensures { registers.new ≡ advanced (words_of_size size) words registers.old }
-{
-    registers.i = onward(size, registers.i, words);
-}
+impl Processor {
+    // Moves I on by so many words.
+    pub(crate) fn advance(&mut self, words: u16)
+        ensures { self.new ≡ moved (advanced (words_of_size self.old.books.size) words) self.old }
+    {
+        self.works.registers.i = onward(self.books.size, self.works.registers.i, words);
+    }
 
-// Goes on at an address.
-pub(crate) fn jump(registers: &mut Registers, size: CoreSize, address: u16)
-    ensures { registers.new ≡ i_set (words_of_size size) address registers.old }
-{
-    registers.i = place(size, address);
+    // Goes on at an address.
+    pub(crate) fn jump(&mut self, address: u16)
+        ensures { self.new ≡ moved (i_set (words_of_size self.old.books.size) address) self.old }
+    {
+        self.works.registers.i = place(self.books.size, address);
+    }
 }
 
 // An offset from the register that a tag names, or from a base where it names none.
@@ -57,8 +59,7 @@ impl<A: ChannelDevice, B: ChannelDevice, C: ChannelDevice, D: Device> Engine<A, 
         ensures within { Within 8 self.old.processor self.new.processor }
     {
         let word = self.read(core, self.processor.works.registers.i);
-        let size = self.processor.books.size;
-        advance(&mut self.processor.works.registers, size, 1);
+        self.processor.advance(1);
         word
     }
 
@@ -156,6 +157,6 @@ impl Fetched for u32 {
         let address = engine.effective(core, fields.tag, fields);
         let high = engine.read(core, address);
         let low = engine.read(core, odd(address));
-        u32::from(high) * 65_536 + u32::from(low)
+        double_of(high, low)
     }
 }

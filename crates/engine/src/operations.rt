@@ -58,6 +58,7 @@ impl<A: ChannelDevice, B: ChannelDevice, C: ChannelDevice, D: Device> Engine<A, 
         ensures goes { Operates A.Device B.Device C.Device D.Device operation fields.now word self.old core.old self.new core.new }
         ensures within { Within 64 self.old.processor self.new.processor }
     {
+        // A match: a table of functions would hand out function pointers, and not all of the operations take the same.
         match operation {
             Operation::ExecuteIo => self.execute_io(core, fields),
             Operation::ShiftLeft => self.processor.works.registers.shift_left(fields),

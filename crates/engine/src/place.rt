@@ -9,7 +9,8 @@ pub enum Position {
     Fourth = 4,
 }
 
-// Whose cycle it is, or whose command was refused: the program's, or a device's, by its position and kind.
+// Whose cycle it is, or whose command was refused: the program's, or a device's, by its position and kind. The program is no missing device, so this is
+// no Option.
 #[derive(Clone, Copy, PartialEq, Eq, Debug)]
 pub enum By {
     Program,

@@ -29,7 +29,7 @@ macro_rules! device_at {
 }
 
 impl<A: ChannelDevice, B: ChannelDevice, C: ChannelDevice, D: Device> Engine<A, B, C, D> {
-    // The first device that answers to an area.
+    // The first device that answers to an area. The four are of four types, so no list of them can be searched.
     pub(crate) fn answering(&self, area: u32) -> Option<Position>
         ensures { (core : List ℕ) → result ≡ the_answering (makes A.Device B.Device C.Device D.Device) (λ p. (dev_at p (view A.Device B.Device C.Device D.Device self.now core)).control) area }
     {
@@ -95,6 +95,7 @@ impl<A: ChannelDevice, B: ChannelDevice, C: ChannelDevice, D: Device> Engine<A, 
         ensures after { (core : List ℕ) → Does A.Device B.Device C.Device D.Device (λ m. calling m position (the_command order.area order.function order.modifier)) self.old core self.new core }
         ensures processor { self.new.processor ≡ self.old.processor }
     {
+        // by hand, since this calls a function with the device, and the macro a method of it
         let by = position.number();
         match position {
             Position::First => command(&mut self.first, order, at, by),

@@ -51,7 +51,7 @@ impl<A: ChannelDevice, B: ChannelDevice, C: ChannelDevice, D: Device> Engine<A, 
         first | (second | (third | fourth))
     }
 
-    // A level's status word: its latched points and raised lines.
+    // A level's status word: the points latched for it and the lines that are up.
     pub fn level_status(&self, level: usize) -> u16
         ensures { (core : List ℕ) → result ≡ the_status (makes A.Device B.Device C.Device D.Device) (view A.Device B.Device C.Device D.Device self.now core) level }
     {

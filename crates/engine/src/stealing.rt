@@ -11,7 +11,8 @@ use device::interface::{ChannelDevice, Device};
 use levels::choice::{Requester, first_behind};
 use works::channel::ChannelWish;
 
-// The channels, as the list of wishes has them: a wish is a record of its own, which the one choice of a requester is given.
+// The channels, at the places that their wishes have in the list which the choice of a requester is given. A requester's rank is a number, so the choice
+// and the turns go by numbers, as in the definition, and this list leads back to the channel.
 const CHANNELS: [ChannelNumber; 3] = [
     ChannelNumber::Channel1,
     ChannelNumber::Channel2,
@@ -30,7 +31,8 @@ impl<A: ChannelDevice, B: ChannelDevice, C: ChannelDevice, D: Device> Engine<A, 
         self.fourth.passed();
     }
 
-    // A channel's reference, with its own device. The three devices have types of their own, so each arm calls another instance.
+    // A channel's reference, with its own device. The three devices have types of their own, so each arm calls another instance; a macro for the arms of two
+    // functions would be as long as they are.
     fn serve(&mut self, core: &mut [u32], number: ChannelNumber)
         requires room { Room (2 ^ 31) self.old.processor core.old }
         ensures after { Does A.Device B.Device C.Device D.Device (λ m. transferring m number) self.old core.old self.new core.new }
@@ -125,7 +127,7 @@ impl<A: ChannelDevice, B: ChannelDevice, C: ChannelDevice, D: Device> Engine<A, 
         Some(at + 1)
     }
 
-    // The offers before a program or idle cycle. Three turns and no loop, as each is one of the three that the definition has.
+    // The offers before a program or idle cycle. Three turns: a loop over them would be as long, and need an invariant beside it.
     pub(crate) fn offers(&mut self, core: &mut [u32])
         requires room { Room (2 ^ 30) self.old.processor core.old }
         ensures after { Does A.Device B.Device C.Device D.Device the_offers self.old core.old self.new core.new }

@@ -42,6 +42,7 @@ impl Processor {
         if self.books.switches.check_stop && self.tally.checked {
             self.works.run = RunState::Stopped;
         }
+        // Field by field: a `+=` of `Counts`, which is public, would require room of its caller.
         self.books.totals.program += self.tally.counts.program;
         self.books.totals.stolen += self.tally.counts.stolen;
         self.books.totals.idle += self.tally.counts.idle;

@@ -17,7 +17,7 @@ use device::function::{
     CONTROL, INITIALIZE_READ, INITIALIZE_WRITE, READ, SENSE_DEVICE, SENSE_INTERRUPT, WRITE,
 };
 use device::interface::{ChannelDevice, Device};
-use levels::state::{Flags, Interrupt};
+use levels::state::{Flags, Interrupt, LEVELS};
 use works::channel::Channel;
 use works::fault::{Cause, ChannelFault};
 use works::panel::Switches;
@@ -110,7 +110,8 @@ impl<A: ChannelDevice, B: ChannelDevice, C: ChannelDevice, D: Device> Engine<A, 
         self.processor.works.clear_sensed();
     }
 
-    // Write to area 0: the masks, once the cycle is told. `high` says which of the two words of masks it is.
+    // Write to area 0: the masks, once the cycle is told. `high` says which of the two words of masks it is; a method's path in its place would have a clause
+    // that speaks of any method, for two.
     fn write_masks(&mut self, core: &mut [u32], address: u16, high: bool)
         requires room { Room (2 ^ 30) self.old.processor core.old }
         ensures goes { Goes A.Device B.Device C.Device D.Device (write_masks high address) self.old core.old done self.new core.new }
@@ -187,7 +188,7 @@ impl<A: ChannelDevice, B: ChannelDevice, C: ChannelDevice, D: Device> Engine<A, 
             (WRITE, 1) => self.write_masks(core, pair.address, true),
             (READ, 2) => self.read_switches(core, pair.address),
             (SENSE_DEVICE, 2) => self.sense_switches(),
-            (CONTROL, level) if level < 24 => self.drop_points(level),
+            (CONTROL, level) if (level as usize) < LEVELS => self.drop_points(level),
             _ => self.nobody(pair.at),
         }
     }

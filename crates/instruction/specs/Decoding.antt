@@ -2,6 +2,8 @@
 --
 --     0-4 operation code    5 F, the long form    6-7 T, the tag    8-15 displacement
 --     8 indirect (long form)    9 branch out    10-15 conditions, or a shift count
+--
+-- In a shift bits 8 and 9 tell its kind; in STS bit 9 tells the form that writes a protect bit.
 use Rattle.std.specs.Prelude.{ℕ, ◌+◌, ◌-◌, ◌/◌, ◌%◌, ◌^◌, Bool, true, false, if◌then◌else◌, Some, None, Option, Result, ok_or, ◌==◌, nat_lt}
 use Rattle.instruction.specs.declared.words.Operation.{Operation}
 use Rattle.instruction.specs.declared.words.Operation.TheVariants.{ExecuteIo, ShiftLeft, ShiftRight, LoadStatus, StoreStatus, Wait, BranchStore, BranchSkip, LoadIndex, StoreIndex, ModifyIndex, Add, AddDouble, Subtract, SubtractDouble, Multiply, Divide, Compare, CompareDouble, Load, LoadDouble, Store, StoreDouble, And, Or, ExclusiveOr}

@@ -1,6 +1,7 @@
 // Decoding. Bits are numbered from the left, from 0.
-ghost use Rattle.std.specs.Prelude.{◌≡◌, ◌%◌, ◌<◌};
+ghost use Rattle.std.specs.Prelude.{◌≡◌, ◌%◌, ◌<◌, Some};
 ghost use Rattle.instruction.specs.Decoding.{bit as the_bit, by_code as the_operation, as_operation, index_of as the_index, extended as the_extended, conditions_of, fields_of};
+ghost use Rattle.instruction.specs.Texts.{no_operation_text};
 
 use crate::words::{Conditions, Fields, Index, Operation};
 use std::error::Error;
@@ -11,8 +12,10 @@ use std::fmt;
 pub struct NotAnOperation;
 
 impl fmt::Display for NotAnOperation {
+    ghost output = { λ e. Some no_operation_text };
+
     fn fmt<W: fmt::Write>(&self, f: &mut fmt::Formatter<W>) -> fmt::Result {
-        f.write_str("no operation")
+        write!(f, "no operation")
     }
 }
 

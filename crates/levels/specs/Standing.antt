@@ -8,7 +8,7 @@ use Rattle.levels.specs.declared.state.LevelWish.{LevelWish}
 abbrev pub flag_word : Flags → ℕ
 flag_word f = cond f.parity 32768 0 + cond f.operation 16384 0 + cond f.protect 8192 0
 
--- a level's status word is made of its latched points and raised lines
+-- a level's status word is made of the points latched for it and the lines that are up
 abbrev pub status : List ℕ → ℕ → ℕ → ℕ
 status points level lines = cond (nat_lt level 24) (bit_or (slice_index points level) lines) lines
 

@@ -5,7 +5,7 @@ ghost use Rattle.levels.specs.Standing.{flag_word, status as the_status, latched
 use crate::state::{Flags, LEVELS, Points};
 
 impl Flags {
-    // The internal level's status word: bit 0 parity, bit 1 operation, bit 2 protect.
+    // The internal level's status word: bit 0 parity, bit 1 operation, bit 2 protect. A method with a name, as a level's status is one, and no `From`.
     pub fn word(&self) -> u16
         ensures { result ≡ flag_word self.now }
     {

@@ -35,7 +35,7 @@ pub enum Interrupt {
     Level(usize),
 }
 
-// A level as a requester.
+// A level as a requester: a rank and a wish, as the project's rules name a requester's record.
 #[derive(Clone, Copy, PartialEq, Eq, Debug)]
 pub struct LevelWish {
     pub level: usize,

@@ -72,7 +72,8 @@ impl<A: ChannelDevice, B: ChannelDevice> Device for Pair<A, B> {
     }
 
     // A call goes to the one of the two that it is for, which an `if` says plainer than a helper: since A and B are two types, it would
-    // be passed the same call as two closures, and be there four times, by area and by work, over & and over &mut.
+    // be passed the same call as two closures, and be there four times, by area and by work, over & and over &mut. A macro would hide what each method
+    // is about, which is whom it calls.
     fn takes_function(&self, area: u32, function: u32) -> bool {
         if self.area_to_first(area) {
             self.first.takes_function(area, function)

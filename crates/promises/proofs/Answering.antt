@@ -1,9 +1,8 @@
 -- What counts answer and steps report; and what no call changes: the core's length, the size, whether opening was accepted.
-use Rattle.std.proofs.Common.{◌≡◌, ℕ, Bool, true, false, cond, ◌&&◌, eqb, List, [], ◌∷◌, ◌++◌, length, Ok, Err, Result, sym, refl, ap, ◌∙◌, ap₂, true≢false, append_assoc, append-nil}
+use Rattle.std.proofs.Common.{◌≡◌, ℕ, Bool, true, false, ◌&&◌, eqb, List, [], ◌∷◌, ◌++◌, length, Ok, Err, sym, refl, ap, ◌∙◌, ap₂, true≢false, append_assoc, append-nil}
 use lib.ListN.{length-map}
 use Rattle.refusal.specs.declared.Refusal.{Refusal}
-use Rattle.refusal.specs.declared.Refusal.TheVariants.{Length, Wiring as BadWiring}
-use Rattle.storage.specs.Memory.{core_size, size_of}
+use Rattle.refusal.specs.declared.Refusal.TheVariants.{Length}
 use Rattle.engine.specs.declared.place.Position.{Position}
 use Rattle.engine.specs.declared.state.Books.{Books}
 use Rattle.engine.specs.declared.state.Wiring.{Wiring}
@@ -21,7 +20,8 @@ use Rattle.controller.specs.declared.call.Entry.{Entry}
 use Rattle.controller.specs.declared.call.Lent.{Lent}
 use Rattle.controller.specs.declared.call.Lent.TheVariants.{Opened, Other}
 use Rattle.engine.specs.declared.state.Report.{Report}
-use Rattle.controller.specs.Opening.{all_wired, opening, is_accepted, opened_machine}
+use Rattle.controller.proofs.Opened.{opened_right as one_right}
+use Rattle.controller.specs.Opening.{opening, is_accepted, opened_machine}
 use Rattle.controller.specs.Console.{Answer, Done, refuse, only_if, told, at_rest, bill_of, data_switches, i_of, cleared, unprotected, clearing, made_call, lent_right, call}
 use Rattle.controller.specs.Run.{lending, enter, run, after, events_of}
 use Rattle.promises.specs.Bill.{tellings, totals_of, unbilled, since_count}
@@ -170,34 +170,10 @@ run_opening m (e ∷ es) s =
 lent_same : (s t : Machine) → SameOpening s t → lent_right t ≡ lent_right s
 lent_same s t h = ap₂ (λ (b : Bool) (x : Bool). b && x) h.accepted (ap₂ (λ (n k : ℕ). eqb n k) h.length (ap words_of_size h.size))
 
--- the size of a core of one of the four lengths has that many words
-size_right : (n : ℕ) → core_size n ≡ true → eqb n (words_of_size (size_of n)) ≡ true
-size_right n h = first (eqb n 4096) refl
-  where
-    fourth : eqb n 4096 ≡ false → eqb n 8192 ≡ false → eqb n 16384 ≡ false → eqb n (words_of_size (size_of n)) ≡ true
-    fourth a b c = rw (a, b, c) (rw (a, b, c) at h)
-
-    third : (x : Bool) → eqb n 16384 ≡ x → eqb n 4096 ≡ false → eqb n 8192 ≡ false → eqb n (words_of_size (size_of n)) ≡ true
-    third true e a b = rw (a, b, e) e
-    third false e a b = fourth a b e
-
-    second : (x : Bool) → eqb n 8192 ≡ x → eqb n 4096 ≡ false → eqb n (words_of_size (size_of n)) ≡ true
-    second true e a = rw (a, e) e
-    second false e a = third (eqb n 16384) refl a e
-
-    first : (x : Bool) → eqb n 4096 ≡ x → eqb n (words_of_size (size_of n)) ≡ true
-    first true e = rw e e
-    first false e = second (eqb n 8192) refl e
-
-accepted_parts : (b : Bool) (r : Result (Unit {0}) Refusal) (y : Refusal) → is_accepted (cond b r (Err y)) ≡ true → b ≡ true
-accepted_parts true r y e = refl
-accepted_parts false r y e = absurd (true≢false (sym e))
-
 pub opened_right : (m : Makes) (es : List Entry) (core : List ℕ) (w : Wiring) (a b c d : Dev) → opening (length core) w ≡ Ok tt → lent_right (after m es (opened_machine core w a b c d)) ≡ true
 opened_right m es core w a b c d e =
     let s = opened_machine core w a b c d in
-    lent_same s (after m es s) (run_opening m es s)
-    ∙ ap₂ (λ (x y : Bool). x && y) (ap is_accepted e) (size_right (length core) (accepted_parts (core_size (length core)) (cond (all_wired w) (Ok tt) (Err BadWiring)) Length (ap is_accepted e)))
+    lent_same s (after m es s) (run_opening m es s) ∙ one_right core w a b c d e
 
 -- after a refused opening
 none_accepted : (s : Machine) → s.processor.books.accepted ≡ false → lent_right s ≡ false

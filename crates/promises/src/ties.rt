@@ -4,6 +4,7 @@ ghost use Rattle.std.specs.Prelude.{◌≡◌};
 ghost use Rattle.promises.specs.Alone.{TiesHold};
 
 // How many clauses there are; all of them stand.
+#[tactic(auto, using(crate::proofs::Refusing::ties_hold))]
 pub fn ties_hold() -> u32
     ensures stand { TiesHold }
     ensures count { result ≡ 11 }

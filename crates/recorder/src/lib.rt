@@ -4,7 +4,7 @@
 ghost use Rattle.std.specs.Prelude.{◌≡◌, [], ◌∷◌, refl};
 ghost use Rattle.terminal.specs.declared.state.Terminal.{Terminal};
 ghost use Rattle.terminal.specs.Terminals.{in_front};
-ghost use Rattle.recorder.specs.Recorders.{recorder_own, recorder_control};
+ghost use Rattle.recorder.specs.Recorders.{recorder_own, recorder_control, count_of, latest_of};
 ghost use Rattle.recorder.specs.Shown.{recorder_apart};
 
 use device::answer::Asking;
@@ -35,14 +35,16 @@ impl Tally {
 
     // How many words were handed over, by put and by take; wraps at 32 bits.
     pub fn count(&self) -> u32
-        ensures { result ≡ self.now.count }
+        ensures count { result ≡ self.now.count }
+        ensures control { (t : Terminal) → result ≡ count_of (in_front t (⟦<Tally as Work<KIND>>⟧.numbers self.now)) }
     {
         self.count
     }
 
     // The latest word that was handed over; 0 before the first.
     pub fn latest(&self) -> u16
-        ensures { result ≡ self.now.latest }
+        ensures latest { result ≡ self.now.latest }
+        ensures control { (t : Terminal) → result ≡ latest_of (in_front t (⟦<Tally as Work<KIND>>⟧.numbers self.now)) }
     {
         self.latest
     }

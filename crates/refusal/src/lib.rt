@@ -10,7 +10,8 @@ use std::fmt;
 // Each with its number.
 #[derive(Clone, Copy, PartialEq, Eq, Hash, Debug)]
 pub enum Refusal {
-    // a core whose length is not one of the four sizes, or an image that does not fit the core
+    // a core whose length is not one of the four sizes, or not that of the core that was opened; any call where the opening was refused; an image
+    // that does not fit the core
     Length = 1,
     // a level outside 0 to 23, or a bit outside 0 to 15
     Wiring = 2,

@@ -1,4 +1,5 @@
-// The laws of registers, as theorems about the definitions that the contracts of their methods cite.
+// The laws of registers, as theorems about the definitions that the contracts of their methods cite: a function for each, since each hangs a theorem of its
+// own on its contract.
 #![tactic(auto)]
 
 ghost use Rattle.std.specs.Prelude.{◌≡◌};

@@ -52,9 +52,12 @@ abbrev pub added_both : ℕ → Registers → Registers
 added_both b r = added_at double b r
 
 -- S and SD: Carry is the borrow
+abbrev pub borrows : Width → ℕ → Registers → Bool
+borrows w b r = nat_lt (w.held r) b
+
 abbrev pub subtracted_at : Width → ℕ → Registers → Registers
 subtracted_at w b r =
-    indicated (nat_lt (w.held r) b) (w.beyond (w.number (w.held r) -ℤ w.number b)) (w.loaded ((w.held r + (w.size - b)) % w.size) r)
+    indicated (borrows w b r) (w.beyond (w.number (w.held r) -ℤ w.number b)) (w.loaded ((w.held r + (w.size - b)) % w.size) r)
 
 abbrev pub subtracted : ℕ → Registers → Registers
 subtracted b r = subtracted_at word b r
@@ -62,7 +65,7 @@ subtracted b r = subtracted_at word b r
 abbrev pub subtracted_both : ℕ → Registers → Registers
 subtracted_both b r = subtracted_at double b r
 
--- CMP and DCM: by the signed numbers; Carry as the subtraction would set it, Overflow untouched
+-- CMP and DCM: by the signed numbers; Carry is the borrow here too, Overflow stays
 abbrev pub comparison : ℤ → ℤ → Ordering
 comparison x y = int_cmp x y
 
@@ -70,7 +73,7 @@ abbrev pub comparison_at : Width → ℕ → Registers → Ordering
 comparison_at w b r = comparison (w.number (w.held r)) (w.number b)
 
 abbrev pub compared_at : Width → ℕ → Registers → Registers
-compared_at w b r = with_flags (nat_lt (w.held r) b) r.overflow r
+compared_at w b r = with_flags (borrows w b r) r.overflow r
 
 abbrev pub compared : ℕ → Registers → Registers
 compared b r = compared_at word b r

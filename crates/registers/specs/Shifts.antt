@@ -7,11 +7,15 @@ use Rattle.registers.specs.declared.state.Shift.{Shift}
 use Rattle.registers.specs.declared.state.Shift.TheVariants.{LeftA, LeftBoth, RightA, RightBoth, Rotate}
 use Rattle.registers.specs.Parts.{with_a, both, with_both, with_flags, index, with_index}
 
+-- bit 0 of A
+abbrev pub first_bit : Registers → Bool
+first_bit r = nat_le 32768 r.a
+
 -- Left: bit 0 goes to Carry, and a 0 comes in at the right. Right: a 0, or of A and Q the sign, comes in at the left. Rotate: the
 -- last bit of Q comes in at the left.
 abbrev pub once : Shift → Registers → Registers
-once LeftA r = with_flags (nat_le 32768 r.a) r.overflow (with_a (r.a * 2 % 65536) r)
-once LeftBoth r = with_flags (nat_le 32768 r.a) r.overflow (with_both (both r * 2 % 4294967296) r)
+once LeftA r = with_flags (first_bit r) r.overflow (with_a (r.a * 2 % 65536) r)
+once LeftBoth r = with_flags (first_bit r) r.overflow (with_both (both r * 2 % 4294967296) r)
 once RightA r = with_a (r.a / 2) r
 once RightBoth r = with_both (both r / 2 + both r / 2147483648 * 2147483648) r
 once Rotate r = with_both (both r / 2 + both r % 2 * 2147483648) r
@@ -23,11 +27,11 @@ times (suc n) s r = times n s (once s r)
 -- Shift and count: as long as bit 0 of A is off and the count lasts. The registers then, and the count left.
 abbrev pub counted : ℕ → Shift → Registers → Registers
 counted zero s r = r
-counted (suc n) s r = if nat_le 32768 r.a then r else counted n s (once s r)
+counted (suc n) s r = if first_bit r then r else counted n s (once s r)
 
 abbrev pub count_left : ℕ → Shift → Registers → ℕ
 count_left zero s r = 0
-count_left (suc n) s r = if nat_le 32768 r.a then suc n else count_left n s (once s r)
+count_left (suc n) s r = if first_bit r then suc n else count_left n s (once s r)
 
 -- the count: the low six bits of the displacement, or of the index register that the tag names
 abbrev pub shift_count : Option Index → ℕ → Registers → ℕ

@@ -6,6 +6,7 @@ ghost use Rattle.std.proofs.Common.{of_z};
 ghost use Rattle.registers.specs.Parts.{both as the_both, index as the_index, with_index};
 ghost use Rattle.registers.specs.Arithmetic.{signed, indicated, added_at, subtracted_at, comparison_at, compared_at, multiplied, quotient as the_quotient, divided, anded, ored, xored};
 
+use crate::double::double_of;
 use crate::operand::Operand;
 use crate::state::Registers;
 use instruction::words::Index;
@@ -54,7 +55,7 @@ impl Registers {
     pub fn both(&self) -> u32
         ensures { result ≡ the_both self.now }
     {
-        u32::from(self.a) * 65_536 + u32::from(self.q)
+        double_of(self.a, self.q)
     }
 
     // Carry changes with each sum and difference; Overflow goes on, and never off.
@@ -140,7 +141,7 @@ impl Registers {
         }
     }
 
-    // AND
+    // AND. The next two differ from it in an operator alone; one method for all three would take the operator, and be longer than their lines.
     pub fn and(&mut self, word: u16)
         ensures { self.new ≡ anded word self.old }
     {

@@ -1,8 +1,16 @@
 // A double goes with A and Q as one number.
+ghost use Rattle.std.specs.Prelude.{◌≡◌, ◌+◌, ◌*◌};
 ghost use Rattle.registers.specs.Arithmetic.{double as the_width};
 
 use crate::operand::Operand;
 use crate::state::Registers;
+
+// Two words as one number, the first in its high half.
+pub fn double_of(high: u16, low: u16) -> u32
+    ensures { result ≡ high * 65536 + low }
+{
+    u32::from(high) * 65_536 + u32::from(low)
+}
 
 impl Operand for u32 {
     ghost width = { the_width };

@@ -7,4 +7,4 @@ pub mod double;
 pub mod operand;
 pub mod shifts;
 pub mod state;
-pub mod word;
+mod word;

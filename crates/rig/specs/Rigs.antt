@@ -6,7 +6,8 @@ use Rattle.terminal.specs.Terminals.{made_terminal}
 use Rattle.scanner.specs.Scanners.{scanner_control}
 use Rattle.recorder.specs.Recorders.{recorder_control}
 use Rattle.engine.specs.declared.state.Wiring.{Wiring}
-use Rattle.engine.specs.Machine.{Machine, Dev}
+use Rattle.works.specs.declared.panel.RunState.TheVariants.{Running}
+use Rattle.engine.specs.Machine.{Machine, Dev, with_run, work}
 use Rattle.controller.specs.Opening.{opened_machine}
 
 abbrev pub row : Wiring
@@ -28,3 +29,7 @@ recorder_in area = record { control = recorder_control (made_terminal (setup_in 
 
 abbrev pub opened_rig : List ℕ → Machine
 opened_rig core = opened_machine core row (scanner_in 1) (scanner_in 2) (scanner_in 3) (recorder_in 4)
+
+-- and started
+abbrev pub started_rig : List ℕ → Machine
+started_rig core = work (with_run Running) (opened_rig core)

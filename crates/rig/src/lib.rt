@@ -5,7 +5,7 @@ ghost use Rattle.std.specs.Prelude.{◌≡◌, length, Ok, Err, IfOk, IfErr};
 ghost use Rattle.controller.specs.Opening.{opening};
 ghost use Rattle.controller.specs.Held.{held};
 ghost use Rattle.engine.specs.Code.{dev};
-ghost use Rattle.rig.specs.Rigs.{row, setup_in as the_setup, scanner_in, recorder_in, opened_rig};
+ghost use Rattle.rig.specs.Rigs.{row, setup_in as the_setup, scanner_in, recorder_in, opened_rig, started_rig};
 
 use controller::controller::Controller;
 use controller::opening::check_opening;
@@ -63,4 +63,15 @@ pub fn open(core: &[u32]) -> Result<Rig, Refusal>
         scanner_in(3),
         recorder_in(4),
     ))
+}
+
+// Opens it over a core and starts it, or says why that is refused.
+pub fn started(core: &[u32]) -> Result<Rig, Refusal>
+    ensures refused { IfErr result (λ e. opening (length core.now) row ≡ Err e) }
+    ensures accepted { IfOk result (λ rig. opening (length core.now) row ≡ Ok tt) }
+    ensures started { IfOk result (λ rig. held ⟦<Scanner<'static> as Device>⟧ ⟦<Scanner<'static> as Device>⟧ ⟦<Scanner<'static> as Device>⟧ ⟦<Recorder as Device>⟧ rig core.now ≡ started_rig core.now) }
+{
+    let mut rig = open(core)?;
+    rig.start(core)?;
+    Ok(rig)
 }

@@ -4,7 +4,7 @@
 use engine::state::Report;
 use refusal::Refusal;
 use registers::state::Registers;
-use rig::{Rig, open};
+use rig::{Rig, started};
 use std::io::Read;
 use storage::image::decode;
 use works::panel::{Counts, RunState};
@@ -38,12 +38,10 @@ fn go(rt: &HostRuntime, rig: &mut Rig, core: &mut [u32]) -> anyhow::Result<Resul
     Ok(Ok(()))
 }
 
-// What it is about to run, or why that is refused. (It reads an image, which `bench` does not: else the two are alike.)
-fn started(image: &[u8], core: &mut [u32]) -> Result<Rig, Refusal> {
+// What it is about to run, or why that is refused.
+fn ready(image: &[u8], core: &mut [u32]) -> Result<Rig, Refusal> {
     decode(image, core)?;
-    let mut rig = open(core)?;
-    rig.start(core)?;
-    Ok(rig)
+    started(core)
 }
 
 fn run(rt: &HostRuntime) -> anyhow::Result<Result<(), Refusal>> {
@@ -51,7 +49,7 @@ fn run(rt: &HostRuntime) -> anyhow::Result<Result<(), Refusal>> {
     let mut image = Vec::new(heap);
     rt.stdin().read_to_end(&mut image)?;
     let mut core = vec![in heap; 0u32; 4096]?;
-    match started(&image, &mut core) {
+    match ready(&image, &mut core) {
         Ok(mut rig) => go(rt, &mut rig, &mut core),
         Err(refusal) => Ok(Err(refusal)),
     }

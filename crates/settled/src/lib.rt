@@ -37,7 +37,7 @@ fn holding(a: u16, q: u16, x1: u16) -> Registers
     }
 }
 
-// What the code makes of the examples on sums.
+// What the code makes of the examples on sums. (The next is like it in shape; what it shows is another method, so they are two.)
 pub fn settled_sums() -> (Registers, Registers)
     ensures { the_seen result.0 ++ the_seen result.1 ≡ numbers sum_examples }
 {
@@ -87,7 +87,7 @@ pub fn settled_shifts() -> (Registers, Registers)
     (counted(4_096, 325), counted(0, 325))
 }
 
-// What the code makes of the manual's examples on shift and count.
+// What the code makes of the manual's examples on shift and count. A tuple, so that the clause can name each.
 pub fn settled_counts() -> (Registers, Registers, Registers, Registers)
     ensures { the_seen result.0 ++ (the_seen result.1 ++ (the_seen result.2 ++ the_seen result.3)) ≡ numbers counting_examples }
 {

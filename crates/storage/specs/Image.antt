@@ -6,7 +6,7 @@ use Rattle.refusal.specs.declared.Refusal.TheVariants.{Length, ImageByte}
 use Rattle.storage.specs.Word.{eighteen, data_of, protect_bit, parity_bit}
 use Rattle.storage.specs.Memory.{core_size}
 
--- a record, and the word of one; parity as it stands, right or wrong
+-- a record, and the word of one; the parity bit is taken over and not looked at
 abbrev pub record_of : ℕ → List ℕ
 record_of w = (protect_bit w + 2 * parity_bit w) ∷ ((data_of w / 256) ∷ ((data_of w % 256) ∷ []))
 

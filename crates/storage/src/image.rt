@@ -22,7 +22,7 @@ fn flags_fit(flags: u8) -> bool
 fn all_flags_fit(image: &[u8]) -> bool
     ensures { result ≡ all_flags_fit image.now }
 {
-    // By a pattern of three named bytes and the rest, as each image record is taken apart here, and not by `all`.
+    // By a slice pattern, as the project's rules want image records taken apart, and not by `all`.
     let mut rest = image;
     while let [flags, _high, _low, more @ ..] = rest {
         if !flags_fit(*flags) {

@@ -45,7 +45,8 @@ pub fn is_core_size(words: usize) -> bool
     CoreSize::try_from(words).is_ok()
 }
 
-// How many words have the protect bit on. Any slice will do, of a core's length or not.
+// How many words have the protect bit on. Any slice will do, of a core's length or not. A `for` over the elements, as the
+// project's rules name it for this count.
 pub fn count_protected(core: &[u32]) -> usize
     ensures { result ≡ protected_count core.now }
 {

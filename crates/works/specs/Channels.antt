@@ -1,4 +1,5 @@
--- A channel's wish: at a head, and at the word that names the next, always; in data, as the device asks.
+-- A channel's wish: in data it is the device's own; where the channel itself has to read core, at a head or at the address of another, it always
+-- wishes.
 use Rattle.std.specs.Prelude.{Bool, true, false}
 use Rattle.device.specs.declared.answer.Asking.{Asking}
 use Rattle.device.specs.declared.answer.Asking.TheVariants.{Nothing, Bring, Take}

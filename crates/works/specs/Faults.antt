@@ -1,4 +1,4 @@
--- Faults. A cause has its number here, and nowhere else; these numbers are apart from those of refusals.
+-- Faults. A cause has its number here; these numbers are apart from those of refusals.
 use Rattle.std.specs.Prelude.{ℕ, Ok, Err, Result}
 use Rattle.device.specs.declared.answer.DeviceFault.{DeviceFault}
 use Rattle.device.specs.declared.answer.DeviceFault.TheVariants.{NotTaken, Busy}
@@ -8,21 +8,28 @@ use Rattle.works.specs.declared.fault.ChannelFault.{ChannelFault}
 use Rattle.works.specs.declared.fault.ChannelFault.TheVariants.{Refused, Parity as ChannelParity, Protect as ChannelProtect}
 use Rattle.works.specs.declared.fault.Fault.{Fault}
 
--- 1 parity, 2 protect, 3 operation, 4 busy, 5 not taken, 6 no device; a check in a channel's cycle has the program's number
+-- a check has one number, whether the program's reference met it or a channel's
+abbrev pub parity_number : ℕ
+parity_number = 1
+
+abbrev pub protect_number : ℕ
+protect_number = 2
+
 abbrev pub channel_number : ChannelFault → ℕ
-channel_number ChannelParity = 1
-channel_number ChannelProtect = 2
+channel_number ChannelParity = parity_number
+channel_number ChannelProtect = protect_number
 channel_number (Refused Busy) = 4
 channel_number (Refused NotTaken) = 5
 
 abbrev pub cause_number : Cause → ℕ
 cause_number (Channel f) = channel_number f
-cause_number Parity = 1
-cause_number Protect = 2
+cause_number Parity = parity_number
+cause_number Protect = protect_number
 cause_number Operation = 3
 cause_number NoDevice = 6
 
--- a channel's fault as the controller's, before its place is set, and with it
+-- For the contracts of the code, which makes a device's record in two steps: a channel's fault as the controller's, before its place is set, and
+-- with it.
 abbrev pub bare : ChannelFault → Fault
 bare f = record { cause = Channel f; address = 0; by = 0; kind = 0 }
 

@@ -10,19 +10,19 @@ pub enum Channel {
     Head {
         address: u16,
     },
-    // in data, with a count above 0
+    // in data: at a word of it, with so many to come. A count of 0 lasts from the last word's reference until the cycle has been told
     Data {
         address: u16,
         count: u16,
         end: TableEnd,
     },
-    // at the word that names the next head
+    // behind the data, where the address of another head stands
     NextHead {
         address: u16,
     },
 }
 
-// A channel as a requester.
+// A channel as a requester: a rank and a wish, as the project's rules name a requester's record.
 #[derive(Clone, Copy, PartialEq, Eq, Debug)]
 pub struct ChannelWish {
     pub channel: usize,

@@ -14,4 +14,4 @@ pub returns-in-4-default-clause-goes : goal.returns-in-4-default-clause-goes
 returns-in-4-default-clause-goes g c =
     let m = makes g.A.Device g.B.Device g.C.Device g.D.Device in
     let s = view g.A.Device g.B.Device g.C.Device g.D.Device c.args.self.now c.args.core.now in
-    ap (λ (p : Plan). (perform m p s).machine) (zero_drop c.args.pair.at c.args.pair.address c.args.pair.control c.in-4-default.is-0 c.if-level-lt24.true) ∙ c.drop_points.ensures.goes c.args.core.now
+    ap (λ (p : Plan). (perform m p s).machine) (zero_drop c.args.pair.at c.args.pair.address c.args.pair.control c.in-4-default.is-0 c.if-level-lt-LEVELS.true) ∙ c.drop_points.ensures.goes c.args.core.now

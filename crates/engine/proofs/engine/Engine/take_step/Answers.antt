@@ -5,13 +5,10 @@ use Rattle.engine.specs.Code.{view, makes}
 use Rattle.engine.proofs.Ending.{step_by}
 use Rattle.engine.proofs.engine.Engine.take_step.Goals as goal
 
-pub returns : goal.returns
-returns g c =
+pub returns-clause-after : goal.returns-clause-after
+returns-clause-after g c =
     let m = makes g.A.Device g.B.Device g.C.Device g.D.Device in
     let v = view g.A.Device g.B.Device g.C.Device g.D.Device in
     let s = v c.args.self.now c.args.core.now in
     let t = v c.act.new.self c.act.new.core in
-    record {
-      after = ap (λ (q : Processor). with_processor q t) c.end_step.ensures ∙ step_by m s t c.default-self.result (search rules) c.act.ensures.goes;
-      answer = c.report.ensures;
-    }
+    ap (λ (q : Processor). with_processor q t) c.end_step.ensures ∙ step_by m s t c.default-self.result (search rules) c.act.ensures.goes

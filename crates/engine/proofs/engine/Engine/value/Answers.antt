@@ -1,24 +1,19 @@
-use Rattle.std.proofs.Common.{length, ◌∙◌, arith}
+use Rattle.std.proofs.Common.{length}
 use Rattle.engine.specs.Code.{view, makes}
-use Rattle.engine.proofs.Going.{only_i, value_long}
+use Rattle.engine.proofs.Going.{value_long}
 use Rattle.engine.proofs.engine.Engine.value.Goals as goal
 
-pub returns : goal.returns
-returns g c =
+pub returns-clause-goes : goal.returns-clause-goes
+returns-clause-goes g c =
     let v = view g.A.Device g.B.Device g.C.Device g.D.Device in
     let u = c.args.core.now in
     let r = c.args.self.now.processor.works.registers in
     let x = c.second-address.new.self in
     let y = c.indirect.new.self in
-    let e = c.indirect.ensures.same in
-    record {
-      goes = value_long (makes g.A.Device g.B.Device g.C.Device g.D.Device) (length u) c.args.fields.now r
-          x.processor.works.registers y.processor.works.registers
-          (v c.args.self.now u)
-          (v x c.second-address.new.core)
-          (v y c.indirect.new.core)
-          c.second-address.result c.indirect.result
-          c.if-not-fields.false c.second-address.ensures.goes c.indirect.ensures.goes e;
-      moved = only_i _ r y.processor.works.registers (e ∙ c.second-address.ensures.moved);
-      within = record { books = cc; grows = omega arith };
-    }
+    value_long (makes g.A.Device g.B.Device g.C.Device g.D.Device) (length u) c.args.fields.now r
+    x.processor.works.registers y.processor.works.registers
+    (v c.args.self.now u)
+    (v x c.second-address.new.core)
+    (v y c.indirect.new.core)
+    c.second-address.result c.indirect.result
+    c.if-not-fields.false c.second-address.ensures.goes c.indirect.ensures.goes c.indirect.ensures.same
