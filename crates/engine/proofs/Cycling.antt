@@ -1,5 +1,5 @@
 -- Cycles, from their parts.
-use Rattle.std.proofs.Common.{◌≡◌, ℕ, zero, suc, ◌+◌, ◌<◌, [], ◌∷◌, get_or, Some, None, Option, sym, refl, ap, ◌∙◌, arith}
+use Rattle.std.proofs.Common.{◌≡◌, ℕ, zero, suc, ◌+◌, ◌<◌, [], ◌∷◌, get_or, Some, None, Option, sym, refl, ap, ◌∙◌, arith, true, ◌&&◌, true≢false}
 use Rattle.engine.specs.declared.place.By.TheVariants.{Program}
 use Rattle.engine.specs.declared.place.ChannelNumber.{ChannelNumber}
 use Rattle.engine.specs.declared.place.ChannelNumber.TheVariants.{Channel1, Channel2, Channel3}
@@ -7,7 +7,10 @@ use Rattle.engine.specs.Machine.{Machine}
 use Rattle.engine.specs.Events.{passed}
 use Rattle.engine.specs.Makes.{Makes, calling_all}
 use Rattle.engine.specs.Cycle.{Reference, refer, one_program, one_stolen, one_idle, counted, tell, transferring, finished, steal, chosen, channel_in, served, turns, offers, cycle, idle_cycle}
-use Rattle.engine.specs.Code.{left_turns}
+use Rattle.std.proofs.lemmas.Bool.{and_parts}
+use Rattle.works.specs.declared.channel.Channel.{Channel}
+use Rattle.works.specs.declared.channel.Channel.TheVariants.{Idle, Head, Data, NextHead}
+use Rattle.engine.specs.Code.{left_turns, is_idle}
 
 -- a stolen cycle
 pub steal_by : (m : Makes) (n : ChannelNumber) (s t w : Machine) → t ≡ (transferring m n s).machine → w ≡ (calling_all m passed (counted one_stolen t)).machine
@@ -53,6 +56,24 @@ pub offers_two : (m : Makes) (s t w x : Machine) (r q z : Option ℕ) (b d : ℕ
 unfolding offers
 offers_two m s t w x r q z b d h e k f l =
     sym (h 2 ∙ ap (λ (y : Option ℕ). left_turns 2 m y t) e ∙ k 1 ∙ ap (λ (y : Option ℕ). left_turns 1 m y w) f ∙ l 0 ∙ last_turn m z x)
+
+-- with every channel idle nobody wishes
+idle_is : (c : Channel) → is_idle c ≡ true → c ≡ Idle
+idle_is Idle e = refl
+idle_is (Head a) e = absurd (true≢false (sym e))
+idle_is (Data a n end) e = absurd (true≢false (sym e))
+idle_is (NextHead a) e = absurd (true≢false (sym e))
+
+pub offers_idle : (m : Makes) (s : Machine) → (is_idle s.processor.works.channel1 && (is_idle s.processor.works.channel2 && is_idle s.processor.works.channel3)) ≡ true
+    → s ≡ (offers m s).machine
+unfolding offers
+offers_idle m s e =
+    let p = and_parts (is_idle s.processor.works.channel1) (is_idle s.processor.works.channel2 && is_idle s.processor.works.channel3) e in
+    let q = and_parts (is_idle s.processor.works.channel2) (is_idle s.processor.works.channel3) p.1 in
+    sym (turn_none m None 2 s (none_wish (idle_is s.processor.works.channel1 p.0) (idle_is s.processor.works.channel2 q.0) (idle_is s.processor.works.channel3 q.1)))
+  where
+    none_wish : s.processor.works.channel1 ≡ Idle → s.processor.works.channel2 ≡ Idle → s.processor.works.channel3 ≡ Idle → chosen m None s ≡ None
+    none_wish a b c = rw (a, b, c) refl
 
 -- a program cycle and an idle one
 pub cycle_by : (m : Makes) (r : Reference) (s o x t : Machine) → o ≡ (offers m s).machine → x ≡ (refer Program r o).machine → t ≡ (calling_all m passed (counted one_program x)).machine

@@ -9,6 +9,8 @@ use Rattle.instruction.specs.declared.words.Operation.{Operation}
 use Rattle.instruction.specs.declared.words.Fields.{Fields}
 use Rattle.registers.specs.declared.state.Registers.{Registers}
 use Rattle.registers.specs.Parts.{with_i}
+use Rattle.works.specs.declared.channel.Channel.{Channel}
+use Rattle.works.specs.declared.channel.Channel.TheVariants.{Idle, Head, Data, NextHead}
 use Rattle.engine.specs.declared.engine.Engine.{Engine}
 use Rattle.engine.specs.declared.place.By.{By}
 use Rattle.engine.specs.declared.place.ChannelNumber.{ChannelNumber}
@@ -60,6 +62,13 @@ Effect {N} {T} fits call r f g = (v : N) (x y : MutBor Registers) (t : T) → fi
 -- a device as the definition has it
 abbrev pub dev : {X : Type 0} → Ghosts X → X → Dev
 dev g x = record { control = g.control x; words = g.words x }
+
+-- whether a channel is in no table
+abbrev pub is_idle : Channel → Bool
+is_idle Idle = true
+is_idle (Head a) = false
+is_idle (Data a n end) = false
+is_idle (NextHead a) = false
 
 -- what is left of the offers after a turn: nothing if nobody was chosen, else so many turns behind the one that was
 abbrev pub left_turns : ℕ → Makes → Option ℕ → Machine → Machine

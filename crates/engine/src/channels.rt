@@ -1,9 +1,9 @@
 // A channel's part of a stolen cycle: its reference to core, its device's bring or take, and where it then stands.
-ghost use Rattle.std.specs.Prelude.{◌≡◌, ℕ, ◌+◌, ◌%◌, ◌^◌, List};
+ghost use Rattle.std.specs.Prelude.{◌≡◌, ℕ, ◌+◌, ◌%◌, ◌^◌, ◌&&◌, List};
 ghost use Rattle.engine.specs.declared.place.By.TheVariants.{Device as the_device};
 ghost use Rattle.engine.specs.Machine.{words_of_size, position_of, channel_at, with_channel};
 ghost use Rattle.engine.specs.Cycle.{at_head as the_head, after_table as behind_table, asking_of, moves, transferring, finished};
-ghost use Rattle.engine.specs.Code.{Room, Keeps, Serves, dev};
+ghost use Rattle.engine.specs.Code.{Room, Keeps, Serves, dev, is_idle};
 
 use crate::place::{By, ChannelNumber, Position};
 use crate::references::place;
@@ -47,6 +47,15 @@ impl Works {
             ChannelNumber::Channel2 => self.channel2 = channel,
             ChannelNumber::Channel3 => self.channel3 = channel,
         }
+    }
+
+    // Whether no channel is in a table.
+    pub(crate) fn channels_idle(&self) -> bool
+        ensures { result ≡ (is_idle self.now.channel1 && (is_idle self.now.channel2 && is_idle self.now.channel3)) }
+    {
+        matches!(self.channel1, Channel::Idle)
+            && matches!(self.channel2, Channel::Idle)
+            && matches!(self.channel3, Channel::Idle)
     }
 }
 

@@ -133,6 +133,10 @@ impl<A: ChannelDevice, B: ChannelDevice, C: ChannelDevice, D: Device> Engine<A, 
         ensures after { Does A.Device B.Device C.Device D.Device the_offers self.old core.old self.new core.new }
         ensures keeps { Keeps 6 self.old.processor self.new.processor }
     {
+        // as it is before most cycles: nobody has to be asked
+        if self.processor.works.channels_idle() {
+            return;
+        }
         let Some(first) = self.turn(core, None) else {
             return;
         };

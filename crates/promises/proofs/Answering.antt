@@ -1,5 +1,5 @@
 -- What counts answer and steps report; and what no call changes: the core's length, the size, whether opening was accepted.
-use Rattle.std.proofs.Common.{◌≡◌, ℕ, Bool, true, false, ◌&&◌, eqb, List, [], ◌∷◌, ◌++◌, length, Ok, Err, sym, refl, ap, ◌∙◌, ap₂, true≢false, append_assoc, append-nil}
+use Rattle.std.proofs.Common.{◌≡◌, ◌≢◌, ℕ, Bool, true, false, ◌&&◌, eqb, List, [], ◌∷◌, ◌++◌, length, Ok, Err, sym, refl, ap, ◌∙◌, ap₂, true≢false, append_assoc, append-nil}
 use lib.ListN.{length-map}
 use Rattle.refusal.specs.declared.Refusal.{Refusal}
 use Rattle.refusal.specs.declared.Refusal.TheVariants.{Length}
@@ -24,7 +24,7 @@ use Rattle.controller.proofs.Opened.{opened_right as one_right}
 use Rattle.controller.specs.Opening.{opening, is_accepted, opened_machine}
 use Rattle.controller.specs.Console.{Answer, Done, refuse, only_if, told, at_rest, bill_of, data_switches, i_of, cleared, unprotected, clearing, made_call, lent_right, call}
 use Rattle.controller.specs.Run.{lending, enter, run, after, events_of}
-use Rattle.promises.specs.Bill.{tellings, totals_of, unbilled, since_count}
+use Rattle.promises.specs.Bill.{tellings, totals_of, restarted_by_count, since_count, NoCount}
 use Rattle.promises.specs.Protection.{at_yes}
 use Rattle.promises.proofs.Firm.{refer_firm}
 use Rattle.promises.proofs.Touching.{all_core, refer_core, step_core}
@@ -101,7 +101,7 @@ enter_answers m Opened c s = call_law (answers_calls m) c s
 enter_answers m Other c s = (answers_calls m).refuses Length s
 
 -- the events since the last accepted count are the tail of all events
-billed_tail : (a : Answer) (ys : List Event) → (xs : List Event) × (ys ≡ xs ++ unbilled a ys)
+billed_tail : (a : Answer) (ys : List Event) → (xs : List Event) × (ys ≡ xs ++ restarted_by_count a ys)
 billed_tail (Ok Accepted) ys = ([], refl)
 billed_tail (Ok (Stepped r)) ys = ([], refl)
 billed_tail (Ok (Displayed w)) ys = ([], refl)
@@ -115,14 +115,31 @@ run_tail m (e ∷ es) s so_far =
     let d = enter m e s in
     let ys = so_far ++ d.events in
     let a = billed_tail d.answer ys in
-    let b = run_tail m es d.machine (unbilled d.answer ys) in (
+    let b = run_tail m es d.machine (restarted_by_count d.answer ys) in (
       a.0 ++ b.0,
       sym (append_assoc so_far d.events (events_of (run m es d.machine)))
           ∙ ap (λ (z : List Event). z ++ events_of (run m es d.machine)) a.1
-          ∙ append_assoc a.0 (unbilled d.answer ys) (events_of (run m es d.machine))
+          ∙ append_assoc a.0 (restarted_by_count d.answer ys) (events_of (run m es d.machine))
           ∙ ap (λ (z : List Event). a.0 ++ z) b.1
-          ∙ sym (append_assoc a.0 b.0 (since_count m es d.machine (unbilled d.answer ys))),
+          ∙ sym (append_assoc a.0 b.0 (since_count m es d.machine (restarted_by_count d.answer ys))),
     )
+
+-- where no entry is answered with a bill, they are all events
+none_restarts : (a : Answer) (ys : List Event) → ((b : Bill) → a ≢ Ok (Counted b)) → restarted_by_count a ys ≡ ys
+none_restarts (Ok Accepted) ys h = refl
+none_restarts (Ok (Stepped r)) ys h = refl
+none_restarts (Ok (Displayed w)) ys h = refl
+none_restarts (Ok (Found a)) ys h = refl
+none_restarts (Ok (Counted b)) ys h = absurd (h b refl)
+none_restarts (Err r) ys h = refl
+
+pub since_none : (m : Makes) (es : List Entry) (s : Machine) (so_far : List Event) → NoCount m es s → since_count m es s so_far ≡ so_far ++ events_of (run m es s)
+since_none m [] s so_far h = sym (append-nil so_far)
+since_none m (e ∷ es) s so_far h =
+    let d = enter m e s in
+    ap (since_count m es d.machine) (none_restarts d.answer (so_far ++ d.events) h.0)
+    ∙ since_none m es d.machine (so_far ++ d.events) h.1
+    ∙ append_assoc so_far d.events (events_of (run m es d.machine))
 
 -- what no call changes
 pub record SameOpening (s t : Machine) : Type 0 where
@@ -156,8 +173,11 @@ opening_calls m = record {
   counts = λ s. plain_opening s _ refl refl refl;
 }
 
+pub call_opening : (m : Makes) (c : Call) (s : Machine) → SameOpening s (call m c s).machine
+call_opening m c s = call_law (opening_calls m) c s
+
 enter_opening : (m : Makes) (l : Lent) (c : Call) (s : Machine) → SameOpening s (lending l m c s).machine
-enter_opening m Opened c s = call_law (opening_calls m) c s
+enter_opening m Opened c s = call_opening m c s
 enter_opening m Other c s = plain_opening s s refl refl refl
 
 run_opening : (m : Makes) (es : List Entry) (s : Machine) → SameOpening s (after m es s)

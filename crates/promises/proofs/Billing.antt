@@ -1,5 +1,5 @@
 -- Every cycle is told once to each device and counted once, and at most three are stolen before each other one.
-use Rattle.std.proofs.Common.{◌≡◌, ℕ, zero, suc, ◌+◌, ◌*◌, ◌≤◌, Bool, true, false, List, [], ◌∷◌, ◌++◌, Some, None, Option, refl, ap, ◌∙◌, add-one, arith}
+use Rattle.std.proofs.Common.{◌≡◌, ℕ, zero, suc, ◌+◌, ◌≤◌, Bool, true, false, List, [], ◌∷◌, ◌++◌, Some, None, Option, refl, ap, ◌∙◌, add-one, arith}
 use Rattle.storage.specs.Word.{is_protected, parity_right}
 use Rattle.works.specs.declared.fault.Fault.{Fault}
 use Rattle.works.specs.declared.panel.Counts.{Counts}
@@ -16,11 +16,8 @@ use Rattle.engine.specs.Cycle.{Reference, reading, storing, bringing, marking, r
 use Rattle.engine.specs.Levels.{drop_points}
 use Rattle.engine.specs.Plan.{Plan, perform}
 use Rattle.controller.specs.Console.{told}
-use Rattle.promises.specs.Bill.{passes, telling, tellings}
+use Rattle.promises.specs.Bill.{passes, telling, tellings, GrowsFairly, tally_of}
 use Rattle.promises.proofs.Laws.{PartLaw, Law, CycleLaw, Other, transferred, ended, cycle_law, perform_law}
-
-abbrev pub tally_of : Machine → Counts
-tally_of s = s.processor.tally.counts
 
 pub tellings_append : (p : Position) (es fs : List Event) → tellings p (es ++ fs) ≡ tellings p es + tellings p fs
 tellings_append p [] fs = omega arith
@@ -194,7 +191,7 @@ offers_most m s = turns_most 3 m None s
 
 -- so that stolen cycles grow by at most three for each other one
 pub record Fairly (s : Machine) (es : List Event) (t : Machine) : Type 0 where
-  pub fair : (tally_of t).stolen + 3 * ((tally_of s).program + (tally_of s).idle) ≤ (tally_of s).stolen + 3 * ((tally_of t).program + (tally_of t).idle)
+  pub fair : GrowsFairly (tally_of s) (tally_of t)
 
 fairly_from : (s t : Machine) (es : List Event) → tally_of t ≡ tally_of s → Fairly s es t
 fairly_from s t es e =

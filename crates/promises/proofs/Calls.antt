@@ -25,7 +25,7 @@ use Rattle.controller.specs.declared.call.ClearMode.TheVariants.{Run as ClearRun
 use Rattle.controller.specs.Opening.{on_panel}
 use Rattle.controller.specs.Console.{Done, accepted, refuse, only_if, told, below_limit, stepping, at_rest, stopping, switching, latching, is_stopped, loading_i, i_of, next_i, loading, displaying, data_switches, is_cleared, cleared, unprotected, swept, clearing, searching, counting, made_call, lent_right, call}
 use Rattle.promises.specs.Ties.{after_events, Tied}
-use Rattle.promises.specs.Bill.{tellings, Fair, totals_of, unbilled}
+use Rattle.promises.specs.Bill.{tellings, Fair, totals_of, restarted_by_count}
 use Rattle.promises.specs.Protection.{Stands, at_yes}
 use Rattle.promises.proofs.Tying.{tied_more, same_devices, calling_all_tied, refer_tied}
 use Rattle.promises.proofs.Firm.{stands_same, refer_firm}
@@ -175,11 +175,11 @@ call_stands m c s = call_law (stands_calls m) c s
 -- the bill
 pub record CallBilled (s : Machine) (d : Done) : Type 0 where
   pub adds : (p : Position) (so_far : List Event) → tellings p so_far ≡ told (totals_of s)
-      → tellings p (unbilled d.answer (so_far ++ d.events)) ≡ told (totals_of d.machine)
+      → tellings p (restarted_by_count d.answer (so_far ++ d.events)) ≡ told (totals_of d.machine)
   pub fair : Fair (totals_of s) → Fair (totals_of d.machine)
 
 -- a call that tells no device and keeps the totals, whose answer is not a bill
-quiet_billed : (s : Machine) (d : Done) → ((es : List Event) → unbilled d.answer es ≡ es) → ((p : Position) → tellings p d.events ≡ 0)
+quiet_billed : (s : Machine) (d : Done) → ((es : List Event) → restarted_by_count d.answer es ≡ es) → ((p : Position) → tellings p d.events ≡ 0)
     → totals_of d.machine ≡ totals_of s → CallBilled s d
 quiet_billed s d u k e = record {
   adds = λ p so_far h.

@@ -11,17 +11,27 @@ use Rattle.controller.specs.Console.{is_cleared, cleared, unprotected, swept}
 use Rattle.promises.specs.Stains.{Stain, stain, stains, StainedSound, Cores}
 use Rattle.promises.proofs.Cores.{made_right, made_protected, same_bit, same_parity}
 
--- every word changed by one rule: what is read after it, in both
+-- every word changed by one rule that keeps what is stained sound
+map_sound : (c : List ℕ) (st' : Stain) (f : ℕ → ℕ)
+    → ((a : ℕ) → a < length c → st' a ≡ true → (is_protected (f (get_or c a 0)) ≡ false) × (parity_right (f (get_or c a 0)) ≡ true))
+    → StainedSound st' (map f c)
+map_sound c st' f g = record {
+  unprotected = λ a k lt. let l = within a lt in ap is_protected (get_or-map f c a 0 0 l) ∙ (g a l k).0;
+  right = λ a k lt. let l = within a lt in ap parity_right (get_or-map f c a 0 0 l) ∙ (g a l k).1;
+}
+  where
+    within : (a : ℕ) → a < length (map f c) → a < length c
+    within a lt = subst (λ (n : ℕ). a < n) (length-map c f) lt
+
+-- what is read after it, in both
 map_cores : {st : Stain} {c d : List ℕ} (st' : Stain) (f : ℕ → ℕ)
     → ((a : ℕ) → a < length c → st' a ≡ false → f (get_or c a 0) ≡ f (get_or d a 0))
-    → ((a : ℕ) → a < length c → st' a ≡ true → (is_protected (f (get_or c a 0)) ≡ false) × (parity_right (f (get_or c a 0)) ≡ true))
-    → ((a : ℕ) → a < length d → st' a ≡ true → (is_protected (f (get_or d a 0)) ≡ false) × (parity_right (f (get_or d a 0)) ≡ true))
-    → Cores st c d → Cores st' (map f c) (map f d)
+    → StainedSound st' (map f c) → StainedSound st' (map f d) → Cores st c d → Cores st' (map f c) (map f d)
 map_cores {st} {c} {d} st' f same first second h = record {
   size = length-map c f ∙ h.size ∙ sym (length-map d f);
   same = λ a k. by a k (cases_lt a (length c));
-  first_sound = sound c first;
-  second_sound = sound d second;
+  first_sound = first;
+  second_sound = second;
 }
   where
     by : (a : ℕ) → st' a ≡ false → (a < length c) ⊎ (length c ≤ a) → get_or (map f c) a 0 ≡ get_or (map f d) a 0
@@ -29,12 +39,6 @@ map_cores {st} {c} {d} st' f same first second h = record {
     by a k (inr ge) =
         get_or-eq_default (map f c) 0 (subst (λ (n : ℕ). n ≤ a) (sym (length-map c f)) ge)
         ∙ sym (get_or-eq_default (map f d) 0 (subst (λ (n : ℕ). n ≤ a) (h.size ∙ sym (length-map d f)) ge))
-
-    sound : (x : List ℕ) → ((a : ℕ) → a < length x → st' a ≡ true → (is_protected (f (get_or x a 0)) ≡ false) × (parity_right (f (get_or x a 0)) ≡ true)) → StainedSound st' (map f x)
-    sound x g = record {
-      unprotected = λ a k lt. let l = subst (λ (n : ℕ). a < n) (length-map x f) lt in ap is_protected (get_or-map f x a 0 0 l) ∙ (g a l k).0;
-      right = λ a k lt. let l = subst (λ (n : ℕ). a < n) (length-map x f) lt in ap parity_right (get_or-map f x a 0 0 l) ∙ (g a l k).1;
-    }
 
 -- a sweep of stores only ends stains, and ends them where it stores
 either_falls : (x : Bool) (n : ℕ) (es : List Event) (st : Stain) (a : ℕ) → st a ≡ false → ((su : Stain) → su a ≡ false → stains su es a ≡ false) → stains st (cond x (stored_at n ∷ es) es) a ≡ false
@@ -100,34 +104,44 @@ left_protected false w e = by (is_protected w) e
     by true e = refl
     by false e = absurd (true≢false e)
 
-pub run_cores : {st : Stain} {c d : List ℕ} (b : Bool) (x : ℕ) → Cores st c d → Cores (stains st (swept b 0 c)) (map (cleared b x) c) (map (cleared b x) d)
-run_cores {st} {c} {d} b x h = map_cores (stains st (swept b 0 c)) (cleared b x) same (never c h.first_sound refl (λ a. refl)) (never d h.second_sound h.size (λ a. same_bit h a)) h
+unstained_left : {st : Stain} {c : List ℕ} (b : Bool) (a : ℕ) → StainedSound st c → a < length c → is_cleared b (get_or c a 0) ≡ false → st a ≡ false
+unstained_left {st} {c} b a h lt e =
+    ⊎_elim (λ k. absurd (true≢false (sym (left_protected b (get_or c a 0) e) ∙ h.unprotected a k lt))) (λ k. k) (cases_Bool (st a))
+
+-- after a sweep of stores no word of core is stained
+pub run_sound : {st : Stain} {c : List ℕ} (b : Bool) (x : ℕ) → StainedSound st c → StainedSound (stains st (swept b 0 c)) (map (cleared b x) c)
+run_sound {st} {c} b x h =
+    map_sound c (stains st (swept b 0 c)) (cleared b x)
+    (λ a lt k. absurd (true≢false (sym (swept_only b 0 c st a k) ∙ unstained_left b a h lt (left a lt k))))
   where
-    unstained_left : (a : ℕ) → a < length c → is_cleared b (get_or c a 0) ≡ false → st a ≡ false
-    unstained_left a lt e = ⊎_elim (λ k. absurd (true≢false (sym (left_protected b (get_or c a 0) e) ∙ h.first_sound.unprotected a k lt))) (λ k. k) (cases_Bool (st a))
+    left : (a : ℕ) → a < length c → stains st (swept b 0 c) a ≡ true → is_cleared b (get_or c a 0) ≡ false
+    left a lt k =
+        let z : 0 + a ≡ a = omega arith in
+        ⊎_elim (λ e. absurd (true≢false (sym k ∙ subst (λ (y : ℕ). stains st (swept b 0 c) y ≡ false) z (swept_ends b 0 c st a lt e)))) (λ e. e)
+        (cases_Bool (is_cleared b (get_or c a 0)))
 
+pub run_cores : {st : Stain} {c d : List ℕ} (b : Bool) (x : ℕ) → Cores st c d → Cores (stains st (swept b 0 c)) (map (cleared b x) c) (map (cleared b x) d)
+run_cores {st} {c} {d} b x h = map_cores (stains st (swept b 0 c)) (cleared b x) same (run_sound b x h.first_sound) second h
+  where
     same : (a : ℕ) → a < length c → stains st (swept b 0 c) a ≡ false → cleared b x (get_or c a 0) ≡ cleared b x (get_or d a 0)
-    same a lt k = stays_or_not b x (get_or c a 0) (get_or d a 0) (same_bit h a) (λ e. h.same a (unstained_left a lt e))
+    same a lt k = stays_or_not b x (get_or c a 0) (get_or d a 0) (same_bit h a) (λ e. h.same a (unstained_left b a h.first_sound lt e))
 
-    ended : (a : ℕ) → a < length c → stains st (swept b 0 c) a ≡ true → is_cleared b (get_or c a 0) ≡ false
-    ended a lt k = ⊎_elim (λ e. let z : 0 + a ≡ a = omega arith in absurd (true≢false (sym k ∙ subst (λ (y : ℕ). stains st (swept b 0 c) y ≡ false) z (swept_ends b 0 c st a lt e)))) (λ e. e) (cases_Bool (is_cleared b (get_or c a 0)))
-
-    never : (y : List ℕ) → StainedSound st y → length c ≡ length y → ((a : ℕ) → is_protected (get_or c a 0) ≡ is_protected (get_or y a 0)) → (a : ℕ) → a < length y → stains st (swept b 0 c) a ≡ true
-        → (is_protected (cleared b x (get_or y a 0)) ≡ false) × (parity_right (cleared b x (get_or y a 0)) ≡ true)
-    never y s size bits a lt k =
-        let lc : a < length c = subst (λ (n : ℕ). a < n) (sym size) lt in
-        absurd (true≢false (sym (swept_only b 0 c st a k) ∙ unstained_left a lc (ended a lc k)))
+    second : StainedSound (stains st (swept b 0 c)) (map (cleared b x) d)
+    second =
+        subst (λ (es : List Event). StainedSound (stains st es) (map (cleared b x) d)) (sym (same_swept b 0 c d h.size (same_bit h)))
+        (run_sound b x h.second_sound)
 
 -- clear, told Display
 bits_sound : (b : Bool) (w : ℕ) → (is_protected w ≡ false) × (parity_right w ≡ true) → (is_protected (unprotected b w) ≡ false) × (parity_right (unprotected b w) ≡ true)
 bits_sound true w h = (made_protected w false, made_right w false)
 bits_sound false w h = h
 
+pub display_sound : {st : Stain} {c : List ℕ} (b : Bool) → StainedSound st c → StainedSound st (map (unprotected b) c)
+display_sound {st} {c} b h = map_sound c st (unprotected b) (λ a lt k. bits_sound b (get_or c a 0) (h.unprotected a k lt, h.right a k lt))
+
 pub display_cores : {st : Stain} {c d : List ℕ} (b : Bool) → Cores st c d → Cores st (map (unprotected b) c) (map (unprotected b) d)
 display_cores {st} {c} {d} b h =
-    map_cores st (unprotected b) (λ a lt k. ap (unprotected b) (h.same a k))
-    (λ a lt k. bits_sound b (get_or c a 0) (h.first_sound.unprotected a k lt, h.first_sound.right a k lt))
-    (λ a lt k. bits_sound b (get_or d a 0) (h.second_sound.unprotected a k lt, h.second_sound.right a k lt)) h
+    map_cores st (unprotected b) (λ a lt k. ap (unprotected b) (h.same a k)) (display_sound b h.first_sound) (display_sound b h.second_sound) h
 
 -- search finds the same: a stained word has right parity in both
 leading_same : (p : ℕ → Bool) (c d : List ℕ) → length c ≡ length d → ((a : ℕ) → a < length c → p (get_or c a 0) ≡ p (get_or d a 0)) → prefix_len p c ≡ prefix_len p d

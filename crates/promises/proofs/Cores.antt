@@ -8,9 +8,12 @@ use Rattle.storage.proofs.Parity.{word_sound}
 use Rattle.engine.specs.Events.{stored_at, brought_to}
 use Rattle.promises.specs.Stains.{Stain, stain, StainedSound, Cores}
 
--- a stored word of data is unprotected or protected as it was meant to be, and has right parity
+-- a stored word has the data, is unprotected or protected as it was meant to be, and has right parity
 data_small : (w : ℕ) → data_of w < 65536
 data_small w = omega arith
+
+pub made_data : (w : ℕ) (p : Bool) → data_of (word_of (data_of w) p) ≡ data_of w
+made_data w p = (word_sound (data_of w) p (data_small w)).data_is
 
 pub made_right : (w : ℕ) (p : Bool) → parity_right (word_of (data_of w) p) ≡ true
 made_right w p = (word_sound (data_of w) p (data_small w)).parity_is
@@ -63,24 +66,33 @@ set_same {st} {c} {d} st' a v w at off h b k = ⊎_elim here there (cases_Bool (
     there : eqb b a ≡ false → get_or (set c a v) b 0 ≡ get_or (set d a w) b 0
     there e = get_or-set_other c a b v 0 (eqb-false b a e) ∙ h.same b (off b k e) ∙ sym (get_or-set_other d a b w 0 (eqb-false b a e))
 
--- a store of data that did not come from a device: the same in both, and it ends the stain
+-- a store of data that did not come from a device ends the stain
+pub own_sound : {st : Stain} {c : List ℕ} (a v : ℕ) → StainedSound st c → StainedSound (stain st (stored_at a)) (set c a v)
+own_sound {st} a v h = set_sound (stain st (stored_at a)) a v (λ b k e. absurd (true≢false (sym (rw e at k)))) (λ b k e. rw e at k) h
+
+-- a store of a device's word begins one
+pub device_sound : {st : Stain} {c : List ℕ} (a v : ℕ) → (is_protected v ≡ false) × (parity_right v ≡ true)
+    → StainedSound st c → StainedSound (stain st (brought_to a)) (set c a v)
+device_sound {st} a v p h = set_sound (stain st (brought_to a)) a v (λ b k e. p) (λ b k e. rw e at k) h
+
+-- so it is in both: data of the machine's own are the same in both
 pub own_cores : {st : Stain} {c d : List ℕ} (a v w : ℕ) → v ≡ w → Cores st c d → Cores (stain st (stored_at a)) (set c a v) (set d a w)
 own_cores {st} {c} {d} a v w q h = record {
   size = length-set c a v ∙ h.size ∙ sym (length-set d a w);
   same = set_same (stain st (stored_at a)) a v w (λ b k e. q) (λ b k e. rw e at k) h;
-  first_sound = set_sound (stain st (stored_at a)) a v (λ b k e. absurd (true≢false (sym (rw e at k)))) (λ b k e. rw e at k) h.first_sound;
-  second_sound = set_sound (stain st (stored_at a)) a w (λ b k e. absurd (true≢false (sym (rw e at k)))) (λ b k e. rw e at k) h.second_sound;
+  first_sound = own_sound a v h.first_sound;
+  second_sound = own_sound a w h.second_sound;
 }
 
--- a store of a device's word: whatever it is in either, it begins a stain
+-- a device's word may be another in either
 pub device_cores : {st : Stain} {c d : List ℕ} (a v w : ℕ)
     → (is_protected v ≡ false) × (parity_right v ≡ true) → (is_protected w ≡ false) × (parity_right w ≡ true)
     → Cores st c d → Cores (stain st (brought_to a)) (set c a v) (set d a w)
 device_cores {st} {c} {d} a v w p q h = record {
   size = length-set c a v ∙ h.size ∙ sym (length-set d a w);
   same = set_same (stain st (brought_to a)) a v w (λ b k e. absurd (true≢false (rw e at k))) (λ b k e. rw e at k) h;
-  first_sound = set_sound (stain st (brought_to a)) a v (λ b k e. p) (λ b k e. rw e at k) h.first_sound;
-  second_sound = set_sound (stain st (brought_to a)) a w (λ b k e. q) (λ b k e. rw e at k) h.second_sound;
+  first_sound = device_sound a v p h.first_sound;
+  second_sound = device_sound a w q h.second_sound;
 }
 
 -- protect bits are the same in both, and so is whether parity is right

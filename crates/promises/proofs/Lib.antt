@@ -11,6 +11,8 @@ pub mod Steps
 pub mod Calls
 pub mod Clearing
 pub mod CallsAlike
+pub mod Sounding
 pub mod Answering
 pub mod Runs
 pub mod Refusing
+pub mod EveryPlan

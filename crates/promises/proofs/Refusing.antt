@@ -1,15 +1,18 @@
 -- A refused call comes to nothing, and no call but a step tells a device of a cycle.
-use Rattle.std.proofs.Common.{◌≡◌, Bool, true, false, not, ◌&&◌, ◌≢◌, [], length, sym, refl, ap, ◌∙◌, ne_eqb, Err, is_ok, true≢false}
+use Rattle.std.proofs.Common.{◌≡◌, ℕ, ◌<◌, ◌≤◌, Bool, true, false, not, ◌&&◌, ◌≢◌, ◌⊎◌, List, [], map, length, get_or, sym, refl, ap, ◌∙◌, subst, inl, inr, ne_eqb, Err, is_ok, true≢false}
+use lib.ListN.{length-map, get_or-eq_default}
+use Rattle.std.proofs.lemmas.List.{get_or-map}
+use Rattle.std.proofs.lemmas.Bool.{cases_lt}
 use Rattle.refusal.specs.declared.Refusal.{Refusal}
 use Rattle.refusal.specs.declared.Refusal.TheVariants.{Length, Wiring, NotStopped, Protected, CycleLimit}
-use Rattle.storage.specs.Word.{is_protected}
+use Rattle.storage.specs.Word.{data_of, is_protected}
 use Rattle.engine.specs.declared.place.Position.{Position}
 use Rattle.engine.specs.Machine.{words_of_size, Machine, word_in, with_processor}
 use Rattle.engine.specs.Makes.{Makes}
 use Rattle.controller.specs.declared.call.Call.{Call}
 use Rattle.controller.specs.declared.call.Call.TheVariants.{Step, Start, Stop, ImmediateStop, SetSwitches, Point, LoadI, Load, Display, Clear, Search, Count}
 use Rattle.controller.specs.Opening.{on_panel}
-use Rattle.controller.specs.Console.{Answer, Done, accepted, refuse, only_if, at_rest, is_stopped, latching, loading_i, i_of, data_switches, below_limit, stepping, loading, displaying, clearing, searching, made_call, lent_right, call}
+use Rattle.controller.specs.Console.{Answer, Done, accepted, refuse, only_if, at_rest, is_stopped, latching, loading_i, i_of, data_switches, below_limit, stepping, loading, displaying, unprotected, clearing, searching, made_call, lent_right, call}
 use Rattle.controller.specs.declared.call.ClearMode.{ClearMode}
 use Rattle.controller.specs.declared.call.ClearMode.TheVariants.{Run as ClearRun, Display as ClearDisplay}
 use Rattle.works.specs.declared.panel.Switches.{Switches}
@@ -25,9 +28,10 @@ use Rattle.promises.proofs.Calls.{CallLaw, call_law, all_silent, load_silent, cl
 use Rattle.promises.proofs.Tying.{perform_tied}
 use Rattle.promises.proofs.Runs.{run_tied}
 use Rattle.promises.proofs.Firm.{refer_firm}
+use Rattle.promises.proofs.Cores.{made_data}
 use Rattle.promises.proofs.Touching.{core_same, core_more, refer_core, perform_core, step_core, clear_core, all_core}
 use Rattle.promises.proofs.Steps.{step_switch, all_books}
-use Rattle.promises.proofs.Answering.{opened_right, opening_refused}
+use Rattle.promises.proofs.Answering.{call_opening, opened_right, opening_refused}
 
 pub record RefusedNothing (s : Machine) (d : Done) : Type 0 where
   pub nothing : (r : Refusal) → d.answer ≡ Err r → d ≡ refuse r s
@@ -124,6 +128,31 @@ call_core : (m : Makes) (c : Call) (s : Machine) → c ≢ Clear ClearDisplay �
 unfolding call
 call_core m c s h = either_core (lent_right s) Length (made_call m c) s (made_core m c s h)
 
+-- clear told Display leaves every word's data as they were
+word_bits : (b : Bool) (w : ℕ) → data_of (unprotected b w) ≡ data_of w
+word_bits true w = made_data w false
+word_bits false w = refl
+
+clear_bits : (b : Bool) (c : List ℕ) (a : ℕ) → data_of (get_or (map (unprotected b) c) a 0) ≡ data_of (get_or c a 0)
+clear_bits b c a = by (cases_lt a (length c))
+  where
+    by : (a < length c) ⊎ (length c ≤ a) → data_of (get_or (map (unprotected b) c) a 0) ≡ data_of (get_or c a 0)
+    by (inl lt) = ap data_of (get_or-map (unprotected b) c a 0 0 lt) ∙ word_bits b (get_or c a 0)
+    by (inr ge) =
+        ap data_of
+        (get_or-eq_default (map (unprotected b) c) 0 (subst (λ (n : ℕ). n ≤ a) (sym (length-map c (unprotected b))) ge) ∙ sym (get_or-eq_default c 0 ge))
+
+either_bits : (b : Bool) (r : Refusal) (f : Machine → Done) (s : Machine) (a : ℕ) → data_of (get_or (f s).machine.core a 0) ≡ data_of (get_or s.core a 0)
+    → data_of (get_or (only_if b r f s).machine.core a 0) ≡ data_of (get_or s.core a 0)
+either_bits true r f s a h = h
+either_bits false r f s a h = refl
+
+call_bits : (m : Makes) (s : Machine) (a : ℕ) → data_of (get_or (call m (Clear ClearDisplay) s).machine.core a 0) ≡ data_of (get_or s.core a 0)
+unfolding call
+call_bits m s a =
+    either_bits (lent_right s) Length (made_call m (Clear ClearDisplay)) s a
+    (either_bits (stopped s) NotStopped (λ t. accepted (clearing ClearDisplay (at_yes t) t)) s a (clear_bits (at_yes s) s.core a))
+
 -- only a switches call moves the switch
 either_yes : (b : Bool) (r : Refusal) (f : Machine → Done) (s : Machine) → at_yes (f s).machine ≡ at_yes s → at_yes (only_if b r f s).machine ≡ at_yes s
 either_yes true r f s h = h
@@ -160,6 +189,8 @@ ties_hold = record {
   lists = run_tied;
   plans_core = perform_core;
   calls_core = call_core;
+  calls_size = λ m c s. (call_opening m c s).length;
+  bits_only = call_bits;
   refusals = refused_none;
   no_cycle = call_silent;
   switch = call_yes;

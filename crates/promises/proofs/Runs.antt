@@ -1,11 +1,12 @@
 -- Lists of calls: what holds of each call, for any list.
-use Rattle.std.proofs.Common.{◌≡◌, ℕ, ◌+◌, ◌*◌, ◌≤◌, Bool, true, false, List, [], ◌∷◌, ◌++◌, length, get_or, sym, refl, ap, ◌∙◌, subst, ap₂, true≢false, arith}
+use Rattle.std.proofs.Common.{◌≡◌, ℕ, ◌+◌, ◌*◌, ◌≤◌, Bool, true, false, List, [], ◌∷◌, ◌++◌, length, get_or, Ok, sym, refl, ap, ◌∙◌, subst, ap₂, true≢false, arith}
 use Rattle.refusal.specs.declared.Refusal.TheVariants.{Length}
 use Rattle.engine.specs.declared.place.Position.{Position}
 use Rattle.engine.specs.declared.place.Position.TheVariants.{First, Second, Third, Fourth}
-use Rattle.engine.specs.Machine.{Machine}
+use Rattle.engine.specs.Machine.{Machine, dev_at}
 use Rattle.engine.specs.Events.{Event}
 use Rattle.engine.specs.Makes.{Makes}
+use Rattle.controller.specs.declared.call.Outcome.TheVariants.{Counted}
 use Rattle.controller.specs.declared.call.Bill.{Bill}
 use Rattle.controller.specs.declared.call.Call.{Call}
 use Rattle.controller.specs.declared.call.Entry.{Entry}
@@ -15,17 +16,18 @@ use Rattle.controller.specs.Opening.{opened_machine}
 use Rattle.controller.specs.Console.{Answer, told, bill_of}
 use Rattle.controller.specs.Run.{lending, enter, run, after, answers_of, events_of}
 use Rattle.promises.specs.Ties.{Tied, outgoing}
-use Rattle.promises.specs.Stains.{Stain, unstained, stains, ReadsNoStain, StainedSound, Alike}
-use Rattle.promises.specs.Bill.{tellings, Fair, totals_of, unbilled, since_count}
+use Rattle.promises.specs.Stains.{Stain, unstained, stains, ReadsNoStain, Alike}
+use Rattle.promises.specs.Bill.{tellings, Fair, totals_of, restarted_by_count, since_count, NoCount}
 use Rattle.promises.specs.Protection.{Stands, at_yes, held_by, when_left_yes, AlwaysNo}
 use Rattle.promises.specs.Alone.{ProtectedWordsAlwaysStay, BillAlwaysAddsUp}
-use Rattle.promises.specs.Unread.{Twins, UnreadInstrumentsDoNotMatter}
+use Rattle.promises.specs.Unread.{Twins, OpenedAlikeAreTwins, UnreadInstrumentsDoNotMatter}
 use Rattle.promises.proofs.Tying.{tied_more}
 use Rattle.promises.proofs.Firm.{stands_same, stands_more}
 use Rattle.promises.proofs.Alike.{stains_append, unread_append, control_at}
 use Rattle.promises.proofs.Calls.{CallBilled, call_tied, call_stands, call_billed, refused_billed}
-use Rattle.promises.proofs.Answering.{enter_answers, run_tail}
+use Rattle.promises.proofs.Answering.{enter_answers, run_tail, since_none}
 use Rattle.promises.proofs.CallsAlike.{SameDone, call_kept}
+use Rattle.promises.proofs.Sounding.{none_stained}
 
 -- devices
 enter_tied : (m : Makes) (l : Lent) (c : Call) (s : Machine) → Tied m s (lending l m c s).events (lending l m c s).machine
@@ -86,11 +88,23 @@ run_adds : (m : Makes) (es : List Entry) (s : Machine) (so_far : List Event) (p 
 run_adds m [] s so_far p h = h
 run_adds m (e ∷ es) s so_far p h =
     let d = enter m e s in
-    run_adds m es d.machine (unbilled d.answer (so_far ++ d.events)) p ((enter_billed m e.lent e.call s).adds p so_far h)
+    run_adds m es d.machine (restarted_by_count d.answer (so_far ++ d.events)) p ((enter_billed m e.lent e.call s).adds p so_far h)
 
 run_fair : (m : Makes) (es : List Entry) (s : Machine) → Fair (totals_of s) → Fair (totals_of (after m es s))
 run_fair m [] s h = h
 run_fair m (e ∷ es) s h = run_fair m es (enter m e s).machine ((enter_billed m e.lent e.call s).fair h)
+
+-- just after an accepted count the totals are nothing
+count_restarts : (m : Makes) (e : Entry) (s : Machine) (b : Bill) (so_far : List Event) (p : Position) → (enter m e s).answer ≡ Ok (Counted b)
+    → tellings p so_far ≡ told (totals_of s) → 0 ≡ told (totals_of (enter m e s).machine)
+count_restarts m e s b so_far p k h =
+    let d = enter m e s in
+    sym (ap (λ (a : Answer). tellings p (restarted_by_count a (so_far ++ d.events))) k) ∙ (enter_billed m e.lent e.call s).adds p so_far h
+
+-- from a machine whose totals are what was told since, with no count after it
+none_adds : (m : Makes) (es : List Entry) (s : Machine) (p : Position) → NoCount m es s → 0 ≡ told (totals_of s)
+    → tellings p (events_of (run m es s)) ≡ told (totals_of (after m es s))
+none_adds m es s p n h = ap (tellings p) (sym (since_none m es s [] n)) ∙ run_adds m es s [] p h
 
 pub bill_adds_up : BillAlwaysAddsUp
 bill_adds_up m es core w a b c d =
@@ -104,6 +118,11 @@ bill_adds_up m es core w a b c d =
       tail = run_tail m es s [];
       answered = λ e x k. let q = (enter_answers m e.lent e.call t).bill x k in (λ p. adds p ∙ sym (ap (λ (y : Bill). y.told) q), bill_sums t x q, bill_fair t x q fair);
       reported = λ e r k p. (enter_answers m e.lent e.call t).report r k p;
+      since_any_count = λ before e rest x q k n p.
+          let u = after m before s in
+          none_adds m rest (enter m e u).machine p n (count_restarts m e u x (since_count m before s []) p k (run_adds m before s [] p refl))
+          ∙ sym (ap (λ (y : List Entry). told (totals_of (after m y s))) q ∙ ap (λ (y : Machine). told (totals_of y)) (after_append m before (e ∷ rest) s));
+      since_opening = λ n p. none_adds m es s p n refl;
     }
   where
     bill_sums : (t : Machine) (x : Bill) → x ≡ bill_of (totals_of t) → x.told ≡ x.program + x.stolen + x.idle
@@ -136,6 +155,16 @@ run_kept m (e ∷ es) st s t h cl =
       alike = subst (λ (z : Stain). Alike z (after m es d.machine) (after m es f.machine)) (sym (stains_append st d.events (events_of (run m es d.machine)))) b.alike;
     }
 
+-- openings over one core, by each device's control
+pub opened_twins : OpenedAlikeAreTwins
+opened_twins core w a b c d e f g h first second third fourth = record { processor = refl; core = refl; control = by }
+  where
+    by : (p : Position) → (dev_at p (opened_machine core w a b c d)).control ≡ (dev_at p (opened_machine core w e f g h)).control
+    by First = first
+    by Second = second
+    by Third = third
+    by Fourth = fourth
+
 -- machines that differ in nothing but words to come are alike, with no word stained
 twins_alike : (s t : Machine) → Twins s t → Alike unstained s t
 twins_alike s t w = record {
@@ -151,9 +180,6 @@ twins_alike s t w = record {
     second_sound = none_stained t.core;
   };
 }
-  where
-    none_stained : (c : List ℕ) → StainedSound unstained c
-    none_stained c = record { unprotected = λ a k lt. absurd (true≢false (sym k)); right = λ a k lt. absurd (true≢false (sym k)) }
 
 pub unread_do_not_matter : UnreadInstrumentsDoNotMatter
 unread_do_not_matter m es s t w cl =

@@ -12,11 +12,11 @@ use Rattle.engine.specs.Step.{plan_for, step_plan, no_tally, begun, check_stoppe
 use Rattle.controller.specs.Console.{told}
 use Rattle.promises.specs.Ties.{Tied}
 use Rattle.promises.specs.Stains.{Stain, Alike}
-use Rattle.promises.specs.Bill.{tellings, Fair, totals_of}
+use Rattle.promises.specs.Bill.{tellings, Fair, totals_of, tally_of}
 use Rattle.promises.specs.Protection.{Stands, at_yes}
 use Rattle.promises.proofs.Tying.{tied_more, same_devices, perform_tied}
 use Rattle.promises.proofs.Firm.{perform_firm}
-use Rattle.promises.proofs.Billing.{tally_of, perform_tallied, perform_fairly}
+use Rattle.promises.proofs.Billing.{perform_tallied, perform_fairly}
 use Rattle.promises.proofs.Alike.{Same, Kept, then_both, change_kept, alike_change}
 use Rattle.promises.proofs.Plans.{same_due, perform_kept}
 

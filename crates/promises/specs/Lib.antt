@@ -2,5 +2,6 @@ pub mod Ties
 pub mod Stains
 pub mod Bill
 pub mod Protection
+pub mod Plans
 pub mod Alone
 pub mod Unread

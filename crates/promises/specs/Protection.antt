@@ -20,7 +20,7 @@ held_by true true before left = before
 held_by false false before left = before
 held_by false true before left = before
 
--- the core as it was when the switch last left Yes; c if it never did
+-- the core as it was when the switch last left Yes within the list; c if it never did
 abbrev pub when_left_yes : Makes → List Entry → Machine → List ℕ → List ℕ
 when_left_yes m [] s c = c
 when_left_yes m (e ∷ es) s c =
@@ -31,8 +31,9 @@ abbrev pub AlwaysNo : Makes → List Entry → Machine → Type 0
 AlwaysNo m [] s = at_yes s ≡ false
 AlwaysNo m (e ∷ es) s = (at_yes s ≡ false) × AlwaysNo m es (enter m e s).machine
 
--- Protected words stay. At No, nothing that was protected when the switch was last turned from Yes to No (or at opening) has changed. And
--- from whatever call on the switch stayed at No, nothing that was protected then has changed.
+-- Protected words stay, on any machine, not only on one just opened. If the switch is at No after the list, nothing has changed of what was protected
+-- when it last went from Yes to No within the list, or, where it never did, when the list began. And from whatever call on the switch stayed at No,
+-- nothing that was protected then has changed.
 pub record ProtectedWordsStay (m : Makes) (es : List Entry) (s : Machine) : Type 0 where
   pub since_left_yes : at_yes (after m es s) ≡ false → Stands (when_left_yes m es s s.core) (after m es s).core
   pub since_any_call : (before rest : List Entry) → es ≡ before ++ rest → AlwaysNo m rest (after m before s)

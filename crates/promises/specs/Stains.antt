@@ -1,4 +1,5 @@
--- Stained words: those whose data came from a device and were not stored over since.
+-- Stained words: those where a word that was got from a device, or brought by its channel, was the last stored. A copy that the program makes of such a
+-- word is none: to make it, the program reads a stained word, and its own store ends any stain where it stores.
 use Rattle.std.specs.Prelude.{◌≡◌, ℕ, ◌<◌, Bool, true, false, cond, List, [], ◌∷◌, length, ◌==◌, slice_index}
 use Rattle.storage.specs.Word.{is_protected, parity_right}
 use Rattle.engine.specs.Machine.{Machine}
@@ -11,7 +12,7 @@ Stain = ℕ → Bool
 abbrev pub unstained : Stain
 unstained a = false
 
--- Data from a device mark the word; data from anywhere else clear the mark.
+-- A store of a device's word, as it was got or brought, marks the address; any other store clears the mark.
 abbrev pub stain : Stain → Event → Stain
 stain st (read_from a) b = st b
 stain st (stored_at a) b = cond (b == a) false (st b)
@@ -22,16 +23,16 @@ abbrev pub stains : Stain → List Event → Stain
 stains st [] = st
 stains st (e ∷ es) = stains (stain st e) es
 
--- one event, and a list of them, that use no marked word
-abbrev pub Unread : Stain → Event → Type 0
-Unread st (read_from a) = st a ≡ false
-Unread st (stored_at a) = Unit {0}
-Unread st (brought_to a) = Unit {0}
-Unread st (called p c) = Unit {0}
+-- one event, and a list of them, that read no stained word
+abbrev pub ReadsUnstained : Stain → Event → Type 0
+ReadsUnstained st (read_from a) = st a ≡ false
+ReadsUnstained st (stored_at a) = Unit {0}
+ReadsUnstained st (brought_to a) = Unit {0}
+ReadsUnstained st (called p c) = Unit {0}
 
 abbrev pub ReadsNoStain : Stain → List Event → Type 0
 ReadsNoStain st [] = Unit {0}
-ReadsNoStain st (e ∷ es) = Unread st e × ReadsNoStain (stain st e) es
+ReadsNoStain st (e ∷ es) = ReadsUnstained st e × ReadsNoStain (stain st e) es
 
 -- what is stained has no protection, and good parity
 pub record StainedSound (st : Stain) (c : List ℕ) : Type 0 where

@@ -1,9 +1,11 @@
 -- Unread instruments do not matter: two machines, one list of calls.
 use Rattle.std.specs.Prelude.{◌≡◌, ℕ, false, List, length, slice_index}
 use Rattle.engine.specs.declared.place.Position.{Position}
-use Rattle.engine.specs.Machine.{Machine, dev_at}
+use Rattle.engine.specs.declared.state.Wiring.{Wiring}
+use Rattle.engine.specs.Machine.{Machine, Dev, dev_at}
 use Rattle.engine.specs.Makes.{Makes}
 use Rattle.controller.specs.declared.call.Entry.{Entry}
+use Rattle.controller.specs.Opening.{opened_machine}
 use Rattle.controller.specs.Run.{run, after, answers_of, events_of}
 use Rattle.promises.specs.Ties.{outgoing}
 use Rattle.promises.specs.Stains.{Stain, unstained, stains, ReadsNoStain, StainedSound}
@@ -14,6 +16,13 @@ pub record Twins (s t : Machine) : Type 0 where
   pub core : s.core ≡ t.core
   pub control : (p : Position) → (dev_at p s).control ≡ (dev_at p t).control
 
+-- openings over one core and with one wiring, where each device has the same control in both, are such machines
+abbrev pub OpenedAlikeAreTwins : Type 0
+OpenedAlikeAreTwins =
+    (core : List ℕ) (w : Wiring) (a b c d e f g h : Dev) → a.control ≡ e.control → b.control ≡ f.control → c.control ≡ g.control → d.control ≡ h.control
+    → Twins (opened_machine core w a b c d) (opened_machine core w e f g h)
+
+-- the words that are stained after a list of calls, where none is before it
 abbrev pub stained_after : Makes → List Entry → Machine → Stain
 stained_after m es s = stains unstained (events_of (run m es s))
 

@@ -2,7 +2,9 @@
 // how many clauses its promise has.
 #![tactic(auto)]
 
+pub mod every_plan;
 pub mod instruments;
 pub mod protection;
+pub mod stains;
 pub mod ties;
 pub mod totals;

@@ -16,6 +16,8 @@ use refusal::Refusal;
 use scanner::{Readings, Scanner};
 use terminal::setup::Setup;
 
+pub mod line;
+
 pub type Rig = Controller<Scanner<'static>, Scanner<'static>, Scanner<'static>, Recorder>;
 
 fn wiring() -> Wiring

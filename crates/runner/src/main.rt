@@ -1,26 +1,14 @@
 // Runs an image: reads 4,096 records from standard input, starts at 0, and prints a line for each step.
 #![tactic(auto)]
 
-use engine::state::Report;
 use refusal::Refusal;
-use registers::state::Registers;
+use rig::line::StepLine;
 use rig::{Rig, started};
 use std::io::Read;
 use storage::image::decode;
-use works::panel::{Counts, RunState};
+use works::panel::RunState;
 
 const STEPS: u32 = 1_000;
-
-fn print_step(rt: &HostRuntime, step: u32, rig: &Rig, report: &Report) -> anyhow::Result<()> {
-    let Registers { i, a, .. } = rig.registers();
-    let Counts {
-        program,
-        stolen,
-        ..
-    } = report.counts;
-    println!(rt; "{step} {i:04X} {a:04X} {program} {stolen}")?;
-    Ok(())
-}
 
 // Steps until it waits, or so many times. A refusal is an answer that is printed, and no failure of the program, so it stands apart from the system's
 // errors: one type of both would want a `From` for each of those.
@@ -30,7 +18,7 @@ fn go(rt: &HostRuntime, rig: &mut Rig, core: &mut [u32]) -> anyhow::Result<Resul
             Ok(report) => report,
             Err(refusal) => return Ok(Err(refusal)),
         };
-        print_step(rt, step, rig, &report)?;
+        println!(rt; "{}", StepLine::of(step, &rig.registers(), &report))?;
         if report.run == RunState::Waiting {
             break;
         }

@@ -1,6 +1,11 @@
+use Rattle.std.proofs.Common.{sym, ◌∙◌}
 use Rattle.engine.specs.Code.{view, makes}
-use Rattle.engine.proofs.Cycling.{offers_none, offers_one, offers_two}
+use Rattle.engine.proofs.Cycling.{offers_idle, offers_none, offers_one, offers_two}
 use Rattle.engine.proofs.engine.Engine.offers.Goals as goal
+
+pub returns-then-channels_idle-clause-after : goal.returns-then-channels_idle-clause-after
+returns-then-channels_idle-clause-after g c =
+    offers_idle (makes g.A.Device g.B.Device g.C.Device g.D.Device) (view g.A.Device g.B.Device g.C.Device g.D.Device c.args.self.now c.args.core.now) (sym c.channels_idle.ensures ∙ c.if-channels_idle.true)
 
 pub returns-in_default-clause-after : goal.returns-in_default-clause-after
 returns-in_default-clause-after g c =
