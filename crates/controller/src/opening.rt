@@ -14,10 +14,17 @@ use storage::memory::CoreSize;
 use works::channel::Channel;
 use works::panel::{Counts, RunState, Switches};
 
+// Whether a level has a status word, and the word such a bit.
+pub(crate) fn on_panel(level: usize, bit: u32) -> bool
+    ensures { result ≡ the_panel level bit }
+{
+    level < LEVELS && bit < 16
+}
+
 fn wired(wire: &Wire) -> bool
     ensures { result ≡ the_panel wire.now.level wire.now.bit }
 {
-    wire.level < LEVELS && wire.bit < 16
+    on_panel(wire.level, wire.bit)
 }
 
 fn all_wired(wiring: &Wiring) -> bool
@@ -43,7 +50,7 @@ pub fn check_opening(core: &[u32], wiring: &Wiring) -> Result<(), Refusal>
     check(core.len(), wiring)
 }
 
-fn opened_works() -> Works
+pub(crate) fn opened_works() -> Works
     ensures { result ≡ the_works }
 {
     Works {

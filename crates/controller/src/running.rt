@@ -17,9 +17,7 @@ impl<A: ChannelDevice, B: ChannelDevice, C: ChannelDevice, D: Device> Controller
     pub fn start(&mut self, core: &[u32]) -> Result<(), Refusal>
         ensures { MakesCall A.Device B.Device C.Device D.Device Start self.old core.now self.new core.now (plainly result) }
     {
-        if !self.engine.processor.books.lent_right(core.len()) {
-            return Err(Refusal::Length);
-        }
+        self.check_lent(core)?;
         self.engine.processor.works.run = RunState::Running;
         Ok(())
     }

@@ -14,7 +14,7 @@ mod operands;
 mod operations;
 pub mod place;
 mod ports;
-mod references;
+pub mod references;
 pub mod state;
 pub mod status;
 mod stealing;

@@ -19,14 +19,14 @@ use registers::state::Registers;
 
 impl Processor {
     // Moves I on by so many words.
-    pub(crate) fn advance(&mut self, words: u16)
+    pub fn advance(&mut self, words: u16)
         ensures { self.new ≡ moved (advanced (words_of_size self.old.books.size) words) self.old }
     {
         self.works.registers.i = onward(self.books.size, self.works.registers.i, words);
     }
 
     // Goes on at an address.
-    pub(crate) fn jump(&mut self, address: u16)
+    pub fn jump(&mut self, address: u16)
         ensures { self.new ≡ moved (i_set (words_of_size self.old.books.size) address) self.old }
     {
         self.works.registers.i = place(self.books.size, address);

@@ -12,7 +12,7 @@ use storage::memory::CoreSize;
 use storage::word::{data_of, is_protected, parity_is_right, stored, word_of};
 
 // An address modulo the core's size. The remainder by a literal is a mask.
-pub(crate) fn place(size: CoreSize, address: u16) -> u16
+pub fn place(size: CoreSize, address: u16) -> u16
     ensures is { result ≡ address % words_of_size size }
     ensures below { result < words_of_size size }
 {

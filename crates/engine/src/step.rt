@@ -68,6 +68,7 @@ impl<A: ChannelDevice, B: ChannelDevice, C: ChannelDevice, D: Device> Engine<A, 
         requires small { told self.old.processor.books.totals < 1000000000000 }
         ensures after { Does A.Device B.Device C.Device D.Device the_step self.old core.old self.new core.new }
         ensures answer { result ≡ the_report self.new.processor }
+        ensures bounded { told self.new.processor.books.totals < 2 ^ 62 }
     {
         self.processor.tally = Tally::default();
         self.act(core);
@@ -75,9 +76,11 @@ impl<A: ChannelDevice, B: ChannelDevice, C: ChannelDevice, D: Device> Engine<A, 
         self.processor.report()
     }
 
-    // One step: what it answers, or why it is refused. A refused step changes nothing.
+    // One step: what it answers, or why it is refused. A refused step changes nothing. The sum of the totals stays one that a
+    // caller can have: a step begins below the limit, and adds little.
     pub fn step(&mut self, core: &mut [u32]) -> Result<Report, Refusal>
-        ensures { Steps A.Device B.Device C.Device D.Device self.old core.old result self.new core.new }
+        ensures steps { Steps A.Device B.Device C.Device D.Device self.old core.old result self.new core.new }
+        ensures bounded { told self.old.processor.books.totals < 2 ^ 62 → told self.new.processor.books.totals < 2 ^ 62 }
     {
         if !self.processor.books.lent_right(core.len()) {
             return Err(Refusal::Length);

@@ -1,4 +1,4 @@
-use Rattle.engine.specs.Code.{makes}
+use Rattle.engine.specs.Code.{view, makes}
 use Rattle.controller.specs.Held.{held}
 use Rattle.controller.proofs.Entering.{step_answered, step_left}
 use Rattle.controller.proofs.controller.Controller.step.Goals as goal
@@ -7,4 +7,5 @@ pub returns : goal.returns
 returns g c =
     let m = makes g.A.Device g.B.Device g.C.Device g.D.Device in
     let s = held g.A.Device g.B.Device g.C.Device g.D.Device c.args.self.now c.args.core.now in
-    record { answer = step_answered m s c.step.result c.step.ensures.answer; machine = step_left m s _ c.step.ensures.after }
+    let t = view g.A.Device g.B.Device g.C.Device g.D.Device c.step.new.self c.step.new.core in
+    record { answer = step_answered m s c.step.result c.step.ensures.steps.answer; machine = step_left m s t c.step.ensures.steps.after }
