@@ -45,7 +45,7 @@ impl fmt::Display for Order {
 }
 
 // Carries out, and prints, what comes before a step.
-pub fn before(rt: &HostRuntime, engine: &mut Exercised, step: u32) -> io::Result<()> {
+pub(crate) fn before(rt: &HostRuntime, engine: &mut Exercised, step: u32) -> io::Result<()> {
     for (when, order) in ORDERS {
         if when == step {
             order.carry_out(engine);

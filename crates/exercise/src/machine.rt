@@ -62,7 +62,7 @@ fn processor() -> Processor {
     }
 }
 
-pub fn machine() -> Exercised {
+pub(crate) fn machine() -> Exercised {
     Engine {
         processor: processor(),
         first: Scanner::make(&Setup { area: 1, gap: 1 }, Readings::new(&READINGS)),
@@ -89,7 +89,7 @@ fn spoil(core: &mut [u32]) {
 }
 
 // Puts the deck into core.
-pub fn load(core: &mut [u32]) {
+pub(crate) fn load(core: &mut [u32]) {
     for (address, words) in DECK {
         place(core, address, words);
     }
