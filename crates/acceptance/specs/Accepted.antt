@@ -55,6 +55,6 @@ pub record BillAddedUp (m : Makes) (es : List Entry) (s left : Machine) : Type 0
       → ((p : Position) → tellings p (since_count m before s []) ≡ b.told) × (b.told ≡ b.program + b.stolen + b.idle) × (b.stolen ≤ 3 * (b.program + b.idle))
 
 -- the machine that is opened over a core, with a wiring and four devices
-module _ {A B C D : Type 0} (a : Ghosts A) (b : Ghosts B) (c : Ghosts C) (d : Ghosts D) where
-  abbrev pub opened_with : List ℕ → Wiring → Devices A B C D → Machine
+module _ {A P B Q C R D S : Type 0} (a : Ghosts A P) (b : Ghosts B Q) (c : Ghosts C R) (d : Ghosts D S) where
+  abbrev pub opened_with : List ℕ → Wiring → Devices A B C D P Q R S → Machine
   opened_with core w x = opened_machine core w (dev a x.first) (dev b x.second) (dev c x.third) (dev d x.fourth)

@@ -5,6 +5,7 @@ use Rattle.std.proofs.lemmas.Result.{err_from_is_err_and}
 use Rattle.refusal.specs.declared.Refusal.{Refusal}
 use Rattle.refusal.specs.declared.Refusal.TheVariants.{Length, NotStopped, CycleLimit}
 use Rattle.device.specs.declared.interface.Device.{Ghosts}
+use Rattle.device.specs.declared.interface.Make.{Ghosts as Number}
 use Rattle.engine.specs.declared.state.Report.{Report}
 use Rattle.engine.specs.Machine.{Machine}
 use Rattle.engine.specs.Makes.{Makes}
@@ -77,9 +78,9 @@ module _ (m : Makes) (k : Call) (s : Machine) where
 handed_on : {T : Type 0} (f : Result T Refusal → Answer) (r : Result T Refusal) (z : Refusal) → IsErrAnd r (λ y. y ≡ z) → f r ≡ f (Err z)
 handed_on f r z h = let p = err_from_is_err_and r h in ap f (p.1 ∙ ap (λ (y : Refusal). Err y) p.2)
 
-module _ {A B C D : Type 0} {a : Ghosts A} {b : Ghosts B} {c : Ghosts C} {d : Ghosts D} {k : Call} {x : Controller A B C D a b c d} {u : List ℕ} where
+module _ {A P B Q C R D S : Type 0} {ka : Number P} {kb : Number Q} {kc : Number R} {kd : Number S} {a : Ghosts A P} {b : Ghosts B Q} {c : Ghosts C R} {d : Ghosts D S} {k : Call} {x : Controller A B C D P Q R S a ka b kb c kc d kd} {u : List ℕ} where
   -- a call that comes to z
-  comes : (z : Done) (y : Controller A B C D a b c d) (v : List ℕ) (r : Answer) → call (makes a b c d) k (held a b c d x u) ≡ z
+  comes : (z : Done) (y : Controller A B C D P Q R S a ka b kb c kc d kd) (v : List ℕ) (r : Answer) → call (makes a b c d) k (held a b c d x u) ≡ z
       → r ≡ z.answer → held a b c d y v ≡ z.machine → MakesCall a b c d k x u y v r
   comes z y v r e p q = record { answer = p ∙ ap (λ (t : Done). t.answer) (sym e); machine = q ∙ ap (λ (t : Done). t.machine) (sym e) }
 
@@ -88,7 +89,7 @@ module _ {A B C D : Type 0} {a : Ghosts A} {b : Ghosts B} {c : Ghosts C} {d : Gh
       → Tested (lent_right (held a b c d x u)) Length (Err z) → MakesCall a b c d k x u x u (f r)
   wrong f r z h p l = comes (refuse z (held a b c d x u)) x u (f r) (not_lent (makes a b c d) k (held a b c d x u) z l) (handed_on f r z h ∙ p) refl
 
-  pub right : (y : Controller A B C D a b c d) (v : List ℕ) (r : Answer) → Tested (lent_right (held a b c d x u)) Length (Ok tt)
+  pub right : (y : Controller A B C D P Q R S a ka b kb c kc d kd) (v : List ℕ) (r : Answer) → Tested (lent_right (held a b c d x u)) Length (Ok tt)
       → r ≡ (made_call (makes a b c d) k (held a b c d x u)).answer → held a b c d y v ≡ (made_call (makes a b c d) k (held a b c d x u)).machine
       → MakesCall a b c d k x u y v r
   right y v r l p q = comes (made_call (makes a b c d) k (held a b c d x u)) y v r (lent (makes a b c d) k (held a b c d x u) l) p q
@@ -101,7 +102,7 @@ module _ {A B C D : Type 0} {a : Ghosts A} {b : Ghosts B} {c : Ghosts C} {d : Gh
       comes (refuse z (held a b c d x u)) x u (f r) (lent (makes a b c d) k (held a b c d x u) l ∙ e ∙ failed (is_stopped x.engine.processor.works.run) NotStopped z w (held a b c d x u) n)
       (handed_on f r z h ∙ p) refl
 
-  pub stopped : (w : Machine → Done) (y : Controller A B C D a b c d) (v : List ℕ) (r : Answer)
+  pub stopped : (w : Machine → Done) (y : Controller A B C D P Q R S a ka b kb c kc d kd) (v : List ℕ) (r : Answer)
       → made_call (makes a b c d) k (held a b c d x u) ≡ when_stopped w (held a b c d x u)
       → Tested (lent_right (held a b c d x u)) Length (Ok tt) → Tested (is_stopped x.engine.processor.works.run) NotStopped (Ok tt)
       → r ≡ (w (held a b c d x u)).answer → held a b c d y v ≡ (w (held a b c d x u)).machine → MakesCall a b c d k x u y v r

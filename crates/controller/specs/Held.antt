@@ -2,6 +2,7 @@
 use Rattle.std.specs.Prelude.{◌≡◌, ℕ, List, Option, Ok, Err, Result}
 use Rattle.refusal.specs.declared.Refusal.{Refusal}
 use Rattle.device.specs.declared.interface.Device.{Ghosts}
+use Rattle.device.specs.declared.interface.Make.{Ghosts as Number}
 use Rattle.works.specs.declared.panel.Switches.{Switches}
 use Rattle.engine.specs.declared.state.Report.{Report}
 use Rattle.engine.specs.Machine.{Machine}
@@ -40,12 +41,12 @@ abbrev pub wiped : ClearMode → Switches → ℕ → ℕ
 wiped ClearRun w = cleared w.write_protect w.«data»
 wiped ClearDisplay w = unprotected w.write_protect
 
-module _ {A B C D : Type 0} (a : Ghosts A) (b : Ghosts B) (c : Ghosts C) (d : Ghosts D) where
+module _ {A P B Q C R D S : Type 0} {ka : Number P} {kb : Number Q} {kc : Number R} {kd : Number S} (a : Ghosts A P) (b : Ghosts B Q) (c : Ghosts C R) (d : Ghosts D S) where
   -- the machine that a controller holds, with the core that is lent to it
-  abbrev pub held : Controller A B C D a b c d → List ℕ → Machine
+  abbrev pub held : Controller A B C D P Q R S a ka b kb c kc d kd → List ℕ → Machine
   held x u = view a b c d x.engine u
 
   -- a call takes x with core u to y with core v, and answers r
-  pub record MakesCall (k : Call) (x : Controller A B C D a b c d) (u : List ℕ) (y : Controller A B C D a b c d) (v : List ℕ) (r : Answer) : Type 0 where
+  pub record MakesCall (k : Call) (x : Controller A B C D P Q R S a ka b kb c kc d kd) (u : List ℕ) (y : Controller A B C D P Q R S a ka b kb c kc d kd) (v : List ℕ) (r : Answer) : Type 0 where
     pub answer : r ≡ (call (makes a b c d) k (held x u)).answer
     pub machine : held y v ≡ (call (makes a b c d) k (held x u)).machine

@@ -9,13 +9,26 @@ use crate::answer::{Asking, DeviceFault};
 use crate::control::ControlWord;
 use crate::table::TableEnd;
 
+// A make, by its number, which fault records carry. A device names its make by `Of`, and has no such constant itself: the check
+// takes none with a ghost member in an `impl` for a type with a lifetime, and a make may borrow.
+pub trait Make {
+    ghost KIND: { ℕ };
+
+    const KIND: u32;
+}
+
+// The make of a number.
+pub struct Kind<const NUMBER: u32>;
+
+impl<const NUMBER: u32> Make for Kind<NUMBER> {
+    ghost KIND = { NUMBER };
+
+    const KIND: u32 = NUMBER;
+}
+
 // Areas, functions, modifiers and words are plain numbers, and any of them may be given.
 pub trait Device {
-    // The number of its make, which fault records carry: a constant, as the project's rules name it. The check takes it in an impl that has type or const parameters or none, and
-    // not yet in one for a type with a lifetime: a make that borrows has what it borrows in a type parameter.
-    ghost KIND_NUMBER: { ℕ };
-
-    const KIND_NUMBER: u32;
+    type Of: Make;
 
     // numbers from which all that the device does follows, the number of words left among them
     ghost control: { Self → List ℕ };
@@ -25,19 +38,17 @@ pub trait Device {
 
     ghost means: { Meaning };
 
-    // the make's number is the one that it means
-    ghost kinded: { means.kind ≡ KIND_NUMBER };
-
     // what every make shows of its meaning
     ghost lawful: { Lawful means };
 
     // the words number what control tells
     ghost numbered: { (s : Self) → length (words s) ≡ means.left (control s) };
 
+    // the number of its make
     fn kind(&self) -> u32
         ensures { result ≡ means.kind }
     {
-        Self::KIND_NUMBER
+        Self::Of::KIND
     }
 
     fn answers_to(&self, area: u32) -> bool
@@ -84,6 +95,9 @@ pub trait Device {
     fn reset(&mut self)
         ensures control { control self.new ≡ means.reset (control self.old) }
         ensures words { words self.new ≡ words self.old };
+
+    // The make's number is the one that it means. It stands behind the calls, since only there it can speak of `Of`.
+    ghost kinded: { means.kind ≡ Self.Of.KIND };
 }
 
 // A device that a channel serves.

@@ -4,16 +4,17 @@ ghost use Rattle.device_demo.specs.Absent.{absent, absent_lawful};
 
 use device::answer::{Asking, DeviceFault};
 use device::control::ControlWord;
-use device::interface::{ChannelDevice, Device};
+use device::interface::{ChannelDevice, Device, Kind};
 use device::table::TableEnd;
 
+// It has a name that is lent to it: a make may borrow.
 #[derive(Clone, Copy, PartialEq, Eq, Debug, Default)]
-pub struct Absent;
+pub struct Absent<'a> {
+    pub name: &'a str,
+}
 
-impl Device for Absent {
-    ghost KIND_NUMBER = { 9 };
-
-    const KIND_NUMBER: u32 = 9;
+impl Device for Absent<'_> {
+    type Of = Kind<9>;
 
     ghost kinded = { refl };
 
@@ -62,7 +63,7 @@ impl Device for Absent {
     fn reset(&mut self) {}
 }
 
-impl ChannelDevice for Absent {
+impl ChannelDevice for Absent<'_> {
     fn asks(&self) -> Asking {
         Asking::Nothing
     }

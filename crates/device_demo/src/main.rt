@@ -10,7 +10,7 @@ use device::function::{INITIALIZE_READ, INITIALIZE_WRITE};
 use device::interface::{ChannelDevice, Device};
 use device::table::TableEnd;
 use pair::Pair;
-use recorder::{Recorder, Tally};
+use recorder::Recorder;
 use scanner::{Readings, Scanner};
 use std::{fmt, io};
 use terminal::setup::Setup;
@@ -22,6 +22,10 @@ const OTHER_AREA: u32 = 8;
 const GAP: u32 = 3;
 
 const READINGS: [u16; 3] = [1_200, 1_207, 1_193];
+
+const ABSENT: Absent<'static> = Absent {
+    name: "the device that refuses everything",
+};
 
 // How a device answered a command, as it is printed.
 #[derive(Clone, Copy, PartialEq, Eq, Debug)]
@@ -99,7 +103,7 @@ fn show_scanner(rt: &HostRuntime, setup: &Setup) -> io::Result<()> {
 
 // A pair in a pair: a scanner, and behind it a recorder with a device that refuses everything. All three are one device here.
 fn show_pair(rt: &HostRuntime, setup: &Setup, other: &Setup) -> io::Result<()> {
-    let inner = Pair::make(Recorder::make(other, Tally::new()), Absent);
+    let inner = Pair::make(recorder::make(other), ABSENT);
     let mut pair = Pair::make(Scanner::make(setup, Readings::new(&READINGS)), inner);
     let kind = pair.kind();
     println!(rt;
@@ -136,6 +140,8 @@ fn main(rt: HostRuntime) -> io::Result<()> {
     }
     show_scanner(&rt, &setup)?;
     show_pair(&rt, &setup, &other)?;
-    let answer = Answer(Absent.command(start(AREA, INITIALIZE_READ)));
-    println!(rt; "a start of the device that refuses everything: {answer}")
+    let mut absent = ABSENT;
+    let answer = Answer(absent.command(start(AREA, INITIALIZE_READ)));
+    let name = absent.name;
+    println!(rt; "a start of {name}: {answer}")
 }

@@ -60,7 +60,7 @@ abbrev pub Effect : {N T : Type 0} → (N → Type 0) → (MutBor Registers → 
 Effect {N} {T} fits call r f g = (v : N) (x y : MutBor Registers) (t : T) → fits v → x.now ≡ with_i x.now.i r → call x v t y → (y.now ≡ f v x.now) × (t ≡ g v)
 
 -- a device as the definition has it
-abbrev pub dev : {X : Type 0} → Ghosts X → X → Dev
+abbrev pub dev : {X Y : Type 0} → Ghosts X Y → X → Dev
 dev g x = record { control = g.control x; words = g.words x }
 
 -- whether a channel is in no table
@@ -93,27 +93,27 @@ step_machine true true m s = (step m s).machine
 step_machine true false m s = s
 step_machine false b m s = s
 
-module _ {A B C D : Type 0} (a : Ghosts A) (b : Ghosts B) (c : Ghosts C) (d : Ghosts D) where
+module _ {A P B Q C R D S : Type 0} (a : Ghosts A P) (b : Ghosts B Q) (c : Ghosts C R) (d : Ghosts D S) where
   -- the machine that the code holds, with the core that is lent to it
-  abbrev pub view : Engine A B C D → List ℕ → Machine
+  abbrev pub view : Engine A B C D P Q R S → List ℕ → Machine
   view x u = record { processor = x.processor; core = u; first = dev a x.first; second = dev b x.second; third = dev c x.third; fourth = dev d x.fourth }
 
   abbrev pub makes : Makes
   makes = record { first = a.means; second = b.means; third = c.means; fourth = d.means }
 
   -- something done takes x with core u to y with core v
-  abbrev pub Does : (Makes → Machine → Did) → Engine A B C D → List ℕ → Engine A B C D → List ℕ → Type 0
+  abbrev pub Does : (Makes → Machine → Did) → Engine A B C D P Q R S → List ℕ → Engine A B C D P Q R S → List ℕ → Type 0
   Does f x u y v = view y v ≡ (f makes (view x u)).machine
 
   -- the plan p comes from x to the same as what is left of it, q, from y
-  abbrev pub Goes : Plan → Engine A B C D → List ℕ → Plan → Engine A B C D → List ℕ → Type 0
+  abbrev pub Goes : Plan → Engine A B C D P Q R S → List ℕ → Plan → Engine A B C D P Q R S → List ℕ → Type 0
   Goes p x u q y v = (perform makes p (view x u)).machine ≡ (perform makes q (view y v)).machine
 
   -- the operation o, with these fields and the first word w, takes x with core u to y with core v
-  abbrev pub Operates : Operation → Fields → ℕ → Engine A B C D → List ℕ → Engine A B C D → List ℕ → Type 0
+  abbrev pub Operates : Operation → Fields → ℕ → Engine A B C D P Q R S → List ℕ → Engine A B C D P Q R S → List ℕ → Type 0
   Operates o f w x u y v = Goes (operation makes (length u) o f w x.processor.works.registers) x u done y v
 
   -- a step, asked of x with core u, answers r and leaves y with core v
-  pub record Steps (x : Engine A B C D) (u : List ℕ) (r : Result Report Refusal) (y : Engine A B C D) (v : List ℕ) : Type 0 where
+  pub record Steps (x : Engine A B C D P Q R S) (u : List ℕ) (r : Result Report Refusal) (y : Engine A B C D P Q R S) (v : List ℕ) : Type 0 where
     pub answer : r ≡ step_answer (lent_right (view x u)) (below_limit (view x u)) makes (view x u)
     pub after : view y v ≡ step_machine (lent_right (view x u)) (below_limit (view x u)) makes (view x u)

@@ -3,7 +3,7 @@ use crate::deck::{DECK, PROTECTED, READINGS, WRONG};
 use engine::engine::Engine;
 use engine::state::{Books, Processor, Tally, Wire, Wiring, Works};
 use levels::state::{Flags, LEVELS, Masks, Points, Service};
-use recorder::{Recorder, Tally as Handed};
+use recorder::Recorder;
 use registers::state::Registers;
 use scanner::{Readings, Scanner};
 use storage::memory::CoreSize;
@@ -66,9 +66,9 @@ pub(crate) fn machine() -> Exercised {
     Engine {
         processor: processor(),
         first: Scanner::make(&Setup { area: 1, gap: 1 }, Readings::new(&READINGS)),
-        second: Recorder::make(&Setup { area: 2, gap: 3 }, Handed::new()),
+        second: recorder::make(&Setup { area: 2, gap: 3 }),
         third: Scanner::make(&Setup { area: 3, gap: 2 }, Readings::new(&[])),
-        fourth: Recorder::make(&Setup { area: 4, gap: 1 }, Handed::new()),
+        fourth: recorder::make(&Setup { area: 4, gap: 1 }),
     }
 }
 

@@ -8,11 +8,13 @@ ghost use Rattle.pair.specs.Shown.{pair_lawful, pair_numbered};
 use device::answer::{Asking, DeviceFault};
 use device::control::ControlWord;
 use device::function::CONTROL;
-use device::interface::{ChannelDevice, Device};
+use device::interface::{ChannelDevice, Device, Kind};
 use device::table::TableEnd;
 use refusal::Refusal;
 
 mod routing;
+
+const KIND: u32 = 3;
 
 #[derive(Drop)]
 pub struct Pair<A, B> {
@@ -51,9 +53,7 @@ impl<A: ChannelDevice, B: ChannelDevice> Pair<A, B> {
 
 #[tactic(auto, using(crate::specs::Shown::first_joined, crate::specs::Shown::second_joined))]
 impl<A: ChannelDevice, B: ChannelDevice> Device for Pair<A, B> {
-    ghost KIND_NUMBER = { 3 };
-
-    const KIND_NUMBER: u32 = 3;
+    type Of = Kind<KIND>;
 
     ghost kinded = { refl };
 

@@ -1,15 +1,19 @@
 // The recorder takes words, and keeps how many there were and the latest.
 #![tactic(auto)]
 
-ghost use Rattle.std.specs.Prelude.{◌≡◌, [], ◌∷◌, refl};
+ghost use Rattle.std.specs.Prelude.{◌≡◌, [], ◌∷◌, Err, refl};
+ghost use Rattle.refusal.specs.declared.Refusal.{Refusal as Refused};
+ghost use Rattle.device.specs.Laws.{AnswersNone};
 ghost use Rattle.terminal.specs.declared.state.Terminal.{Terminal};
-ghost use Rattle.terminal.specs.Terminals.{in_front};
-ghost use Rattle.recorder.specs.Recorders.{recorder_own, recorder_control, count_of, latest_of};
+ghost use Rattle.terminal.specs.Setups.{checked};
+ghost use Rattle.terminal.specs.Terminals.{in_front, made_terminal};
+ghost use Rattle.recorder.specs.Recorders.{recorder, recorder_own, recorder_control, count_of, latest_of};
 ghost use Rattle.recorder.specs.Shown.{recorder_apart};
 
 use device::answer::Asking;
 use device::function::{CONTROL, INITIALIZE_WRITE, WRITE};
 use device::interface::Device;
+use terminal::setup::Setup;
 use terminal::station::Station;
 use terminal::work::Work;
 
@@ -48,6 +52,14 @@ impl Tally {
     {
         self.latest
     }
+}
+
+// A recorder at rest that was handed no word yet. Over what the check refuses it answers to no area.
+pub fn make(setup: &Setup) -> Recorder
+    ensures control { ⟦<Recorder as Device>⟧.control result ≡ recorder_control (made_terminal setup.now) 0 0 }
+    ensures none { (e : Refused) → checked setup.now ≡ Err e → AnswersNone recorder (⟦<Recorder as Device>⟧.control result) }
+{
+    Recorder::make(setup, Tally::new())
 }
 
 // A recorder's control, number by number: area, gap, operating, wait, line, count, latest.

@@ -11,7 +11,7 @@ use controller::controller::Controller;
 use controller::opening::check_opening;
 use device::interface::Device;
 use engine::state::{Wire, Wiring};
-use recorder::{Recorder, Tally};
+use recorder::Recorder;
 use refusal::Refusal;
 use scanner::{Readings, Scanner};
 use terminal::setup::Setup;
@@ -46,7 +46,7 @@ fn scanner_in(area: u32) -> Scanner<'static>
 fn recorder_in(area: u32) -> Recorder
     ensures { dev ⟦<Recorder as Device>⟧ result ≡ recorder_in area }
 {
-    Recorder::make(&setup_in(area), Tally::new())
+    recorder::make(&setup_in(area))
 }
 
 // Opens it over a core, or says why that is refused.

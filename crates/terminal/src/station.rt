@@ -11,7 +11,7 @@ use crate::state::Terminal;
 use crate::work::Work;
 use device::answer::{Asking, DeviceFault};
 use device::control::ControlWord;
-use device::interface::{ChannelDevice, Device};
+use device::interface::{ChannelDevice, Device, Kind};
 use device::table::TableEnd;
 use refusal::Refusal;
 
@@ -57,9 +57,7 @@ impl<W: Work<KIND>, const KIND: u32> Station<W, KIND> {
 }
 
 impl<W: Work<KIND>, const KIND: u32> Device for Station<W, KIND> {
-    ghost KIND_NUMBER = { KIND };
-
-    const KIND_NUMBER: u32 = KIND;
+    type Of = Kind<KIND>;
 
     ghost kinded = { W.kinded };
 

@@ -77,6 +77,7 @@ impl Terminal {
     pub fn command(&mut self, start: u32, function: u32) -> Result<(), DeviceFault>
         ensures answer { result ≡ (if self.old.operating && not (function == 4) then Err Busy else Ok tt) }
         ensures after { (rest : List ℕ) → in_front self.new rest ≡ when_accepted result (obeyed start (in_front self.old rest) function) (in_front self.old rest) }
+        ensures area { self.new.area ≡ self.old.area }
     {
         if self.operating && function != CONTROL {
             return Err(DeviceFault::Busy);

@@ -36,10 +36,14 @@ bare f = record { cause = Channel f; address = 0; by = 0; kind = 0 }
 abbrev pub placed : ℕ → ℕ → ℕ → Fault → Fault
 placed address by kind f = record { cause = f.cause; address = address; by = by; kind = kind }
 
--- a command's answer as the channel hands it on, and as the controller records it
+-- a command's answer as the channel hands it on, as the controller takes it, and as it records it
 abbrev pub by_channel : Result (Unit {0}) DeviceFault → Result (Unit {0}) ChannelFault
 by_channel (Ok u) = Ok u
 by_channel (Err e) = Err (Refused e)
+
+abbrev pub bared : Result (Unit {0}) ChannelFault → Result (Unit {0}) Fault
+bared (Ok u) = Ok u
+bared (Err e) = Err (bare e)
 
 abbrev pub recorded : ℕ → ℕ → ℕ → Result (Unit {0}) ChannelFault → Result (Unit {0}) Fault
 recorded address by kind (Ok u) = Ok u

@@ -1,8 +1,8 @@
-// The channel's fault wraps the device's refusal, and the controller's wraps the channel's, turned by `From`. Whoever knows the place sets it.
+// The channel's fault wraps the device's refusal, and the controller's wraps the channel's, carried by `?`. Whoever knows the place sets it.
 ghost use Rattle.std.specs.Prelude.{◌≡◌};
 ghost use Rattle.works.specs.declared.fault.ChannelFault.TheVariants.{Refused as the_refused};
 ghost use Rattle.device.specs.Calls.{command_answer, command_control};
-ghost use Rattle.works.specs.Faults.{channel_number as the_channel_number, cause_number, bare, placed as the_placed, by_channel, recorded};
+ghost use Rattle.works.specs.Faults.{channel_number as the_channel_number, cause_number, bare, bared, placed as the_placed, by_channel, recorded};
 
 use crate::fault::{Cause, ChannelFault, Fault};
 use device::answer::DeviceFault;
@@ -82,6 +82,16 @@ pub fn channel_command<D: Device>(device: &mut D, order: ControlWord) -> Result<
     Ok(())
 }
 
+// The same as a fault of the controller's, before its place is set.
+fn bare_command<D: Device>(device: &mut D, order: ControlWord) -> Result<(), Fault>
+    ensures answer { result ≡ bared (by_channel (command_answer D.Device.means (D.Device.control device.old) order.area order.function)) }
+    ensures control { D.Device.control device.new ≡ command_control D.Device.means (D.Device.control device.old) order.area order.function order.modifier }
+    ensures words { D.Device.words device.new ≡ D.Device.words device.old }
+{
+    channel_command(device, order)?;
+    Ok(())
+}
+
 // A command as the controller gives it, with its own record of a refusal: the address, and the device by position and kind.
 pub fn command<D: Device>(
     device: &mut D,
@@ -94,5 +104,5 @@ pub fn command<D: Device>(
     ensures words { D.Device.words device.new ≡ D.Device.words device.old }
 {
     let kind = device.kind();
-    channel_command(device, order).map_err(|fault| Fault::from(fault).placed(address, by, kind))
+    bare_command(device, order).map_err(|fault| fault.placed(address, by, kind))
 }
